@@ -1,0 +1,8 @@
+//! Prefixes and cells: the values of a tariff book as they lie in memory.
+
+mod cell;
+mod digits;
+mod prefix;
+
+pub use cell::Cell;
+pub use prefix::Prefix;
