@@ -5,4 +5,6 @@ mod digits;
 mod prefix;
 
 pub use cell::Cell;
+pub use cell::CellDebug;
 pub use prefix::Prefix;
+pub use prefix::PrefixDebug;

@@ -1,7 +1,7 @@
 -- Laws of the tests `every` and `pairwise`.
 use mathlib.Core.Path.{_≡_, refl, sym, ap, _∙_}
 use mathlib.Core.Bool.{Bool, true, false, _&&_}
-use mathlib.Core.List.{List, [], _∷_, _++_}
+use mathlib.Core.List.{List, [], _∷_, _++_, map}
 use Prim.Native.Nat.{ℕ, _+_, _<_, _≤_, zero, suc}
 use native.Mathlib.Omega.{arith}
 use lib.ListN.{length, getD, drop, set}
@@ -86,3 +86,7 @@ every-from p q r f (x ∷ xs) a b =
 pub every-of : {X : Type 0} (p : X → Bool) → ((x : X) → p x ≡ true) → (xs : List X) → every p xs ≡ true
 every-of p f [] = refl
 every-of p f (x ∷ xs) = and-from (p x) (every p xs) (f x) (every-of p f xs)
+
+pub every-map : {X Y : Type 0} (p : Y → Bool) (f : X → Y) (xs : List X) → every p (map f xs) ≡ every (λ x. p (f x)) xs
+every-map p f [] = refl
+every-map p f (x ∷ xs) = ap (λ b. p (f x) && b) (every-map p f xs)

@@ -36,7 +36,7 @@ module _ (m : Model) (t : ℕ) where
   pub strike-known : (r : ℕ) → mayStrike m t r ≡ done tt → (t < 4) × (r < length (rowsOf m t))
   strike-known r e = grind (arith, tells)
 
-  pub amend-known : (r c : ℕ) (v : Value) → mayAmend m t r c (kindOf v) ≡ done tt → (t < 4) × (r < length (rowsOf m t)) × (c < length (columnsOf m t)) × (sameKind (columnAt (columnsOf m t) c .kind) (kindOf v) ≡ true)
+  pub amend-known : (r c : ℕ) (v : Value) → mayAmend m t r c v ≡ done tt → (t < 4) × (r < length (rowsOf m t)) × (c < length (columnsOf m t)) × (sameKind (columnAt (columnsOf m t) c .kind) (kindOf v) ≡ true)
   amend-known r c v e = grind (arith, tells)
 
 -- a table of a lawful book is sound
@@ -71,7 +71,7 @@ module _ (m : Model) (t : ℕ) (law : lawful m ≡ true) where
       let w = rows-within in
       change (removed (rowsOf m t) r) (omega arith) (every-removed (fits (columnsOf m t)) (rowsOf m t) r rows-fit)
 
-  pub amend-lawful : (r c : ℕ) (v : Value) → mayAmend m t r c (kindOf v) ≡ done tt → pairwise (sound (m .limit)) (m .columns) (set (m .tables) t (set (rowsOf m t) r (set (getD (rowsOf m t) r []) c v))) ≡ true
+  pub amend-lawful : (r c : ℕ) (v : Value) → mayAmend m t r c v ≡ done tt → pairwise (sound (m .limit)) (m .columns) (set (m .tables) t (set (rowsOf m t) r (set (getD (rowsOf m t) r []) c v))) ≡ true
   amend-lawful r c v e =
       let k = amend-known m t r c v e in
       let w = rows-within in

@@ -1,3 +1,4 @@
 pub mod Every
 pub mod Lawful
 pub mod Agreed
+pub mod Same

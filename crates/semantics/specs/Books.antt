@@ -5,7 +5,6 @@ use Prim.Native.Nat.{ℕ, _+_, _/_, min}
 use lib.Dec.{leb, ltb, eqb}
 use lib.ListN.{length, getD, set}
 use Rattle.std.specs.shelf.Lists.{removed}
-use Rattle.semantics.specs.declared.kind.Kind.{Kind}
 use Rattle.semantics.specs.declared.kind.Kind.the-variants as kind
 use Rattle.semantics.specs.declared.kind.Column.{Column}
 use Rattle.semantics.specs.declared.refusal.Refusal.the-variants.{NoTable, NoRow, NoColumn, WrongWidth, WrongKind, TableFull}
@@ -74,19 +73,19 @@ struck m t r = andThen (mayStrike m t r) (λ _. done (withRows m t (removed (row
 abbrev pub columnAt : List Column → ℕ → Column
 columnAt columns c = getD columns c (record { kind = kind.Number; domain = 0 })
 
--- The questions of an amendment by a value of this kind.
-abbrev pub mayAmend : Model → ℕ → ℕ → ℕ → Kind → Outcome (Unit {0})
-mayAmend m t r c kind =
+-- The questions of an amendment.
+abbrev pub mayAmend : Model → ℕ → ℕ → ℕ → Value → Outcome (Unit {0})
+mayAmend m t r c v =
     question (isTable t) NoTable
     (question (ltb r (length (rowsOf m t))) NoRow
     (question (ltb c (length (columnsOf m t))) NoColumn
-    (question (sameKind (columnAt (columnsOf m t) c .kind) kind) (WrongKind 0)
+    (question (sameKind (columnAt (columnsOf m t) c .kind) (kindOf v)) (WrongKind 0)
     (done tt))))
 
 -- Amend: one value of one row is another.
 abbrev pub amended : Model → ℕ → ℕ → ℕ → Value → Outcome Model
 amended m t r c v =
-    andThen (mayAmend m t r c (kindOf v)) (λ _.
+    andThen (mayAmend m t r c v) (λ _.
     done (withRows m t (set (rowsOf m t) r (set (getD (rowsOf m t) r []) c v))))
 
 -- Has a row one value for each column, of the column's kind?

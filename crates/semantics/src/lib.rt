@@ -4,5 +4,9 @@ mod kind;
 mod refusal;
 
 pub use kind::Column;
+pub use kind::ColumnDebug;
 pub use kind::Kind;
+pub use kind::KindDebug;
+pub use kind::KindPartialEq;
 pub use refusal::Refusal;
+pub use refusal::RefusalDebug;

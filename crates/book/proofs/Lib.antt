@@ -1,0 +1,9 @@
+pub mod Listing
+pub mod Tabled
+pub mod Memory
+pub mod Cleaning
+pub mod Layouts
+pub mod Storing
+pub mod Striking
+pub mod Amending
+pub mod Next

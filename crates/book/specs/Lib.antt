@@ -1,0 +1,3 @@
+pub mod Columns
+pub mod Layout
+pub mod Books
