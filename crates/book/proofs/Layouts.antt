@@ -15,7 +15,8 @@ use Rattle.semantics.specs.Values.{Value, number}
 use Rattle.cells.specs.declared.cell.Cell.{Cell}
 use Rattle.cells.specs.declared.cell.Cell.the-variants.{Number, Prefix}
 use Rattle.cells.specs.Cells.{cellValue}
-use Rattle.book.specs.Layout.{place, cellAt, widthOf, tabled, rowIn, modelIn, used, isZero, Clean, Laid}
+use Rattle.semantics.specs.Lists.{tabled}
+use Rattle.book.specs.Layout.{place, cellAt, widthOf, rowIn, modelIn, used, isZero, Clean, Laid}
 use Rattle.book.proofs.Tabled.{length-tabled, getD-tabled}
 use Rattle.book.proofs.Memory.{row-at, count-at}
 use Rattle.book.proofs.Cleaning.{usedAt, used-place}

@@ -16,7 +16,8 @@ use Rattle.semantics.proofs.Lawful.{rows-within}
 use Rattle.cells.specs.declared.cell.Cell.{Cell}
 use Rattle.cells.specs.declared.cell.Cell.the-variants.{Number}
 use Rattle.cells.specs.Cells.{cellValue}
-use Rattle.book.specs.Layout.{rowStart, place, cellAt, widthOf, tabled, rowIn, tableIn, modelIn}
+use Rattle.semantics.specs.Lists.{tabled}
+use Rattle.book.specs.Layout.{rowStart, place, cellAt, widthOf, rowIn, tableIn, modelIn}
 use Rattle.book.proofs.Tabled.{length-tabled, getD-tabled, tabled-is, tabled-same}
 
 -- a list of one value has it everywhere

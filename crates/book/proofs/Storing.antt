@@ -22,7 +22,8 @@ use Rattle.cells.specs.declared.cell.Cell.the-variants.{Number}
 use Rattle.cells.specs.Cells.{cellValue}
 use Rattle.book.specs.declared.columns.Columns.{Columns}
 use Rattle.book.specs.Columns.{listed, columnsIn}
-use Rattle.book.specs.Layout.{rowStart, cellAt, widthOf, tabled, rowIn, tableIn, modelIn}
+use Rattle.semantics.specs.Lists.{tabled}
+use Rattle.book.specs.Layout.{rowStart, cellAt, widthOf, rowIn, tableIn, modelIn}
 use Rattle.book.proofs.Listing.{columns-at, width-at}
 use Rattle.book.proofs.Memory.{rows-at, count-at, table-same, put-in, put-out, put-length}
 use Rattle.book.proofs.Tabled.{tabled-is, tabled-more, tabled-set}

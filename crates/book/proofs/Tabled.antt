@@ -10,7 +10,7 @@ use Rattle.std.proofs.shelf.Counted.{length-map-counting, getD-map-counting, ma
 use Rattle.std.proofs.shelf.Edits.{length-removed, getD-removed-below, getD-removed-above}
 use Rattle.std.proofs.shelf.Lists.{getD-set-same, getD-set-other, length-set}
 use Rattle.std.proofs.shelf.Tests.{cases-eq, cases-lt}
-use Rattle.book.specs.Layout.{tabled}
+use Rattle.semantics.specs.Lists.{tabled}
 
 module _ {X : Type 0} (f : ℕ → X) (n : ℕ) where
   pub length-tabled : length (tabled f n) ≡ n

@@ -1,14 +1,14 @@
 -- Where the rows of a book lie in its memory.
 use mathlib.Core.Path.{_≡_}
 use mathlib.Core.Bool.{Bool, true, false, _&&_}
-use mathlib.Core.List.{List, [], map}
+use mathlib.Core.List.{List, []}
 use mathlib.Core.Logic.{_⊎_, _≢_}
 use Prim.Native.Nat.{ℕ, _+_, _*_, _/_, _%_, _≤_, _<_}
 use lib.Dec.{ltb, eqb}
 use lib.ListN.{length, getD}
-use Rattle.std.specs.Iters.{counting}
 use Rattle.semantics.specs.declared.kind.Column.{Column}
 use Rattle.semantics.specs.Books.{Model, limitOf}
+use Rattle.semantics.specs.Lists.{tabled}
 use Rattle.semantics.specs.Values.{Value, number}
 use Rattle.cells.specs.declared.cell.Cell.{Cell}
 use Rattle.cells.specs.declared.cell.Cell.the-variants.{Number, Prefix}
@@ -28,10 +28,6 @@ cellAt cells t r c = getD cells (place t r c) (Number 0)
 -- How many columns a table has.
 abbrev pub widthOf : List (List Column) → ℕ → ℕ
 widthOf columns t = length (getD columns t [])
-
--- The list of `f 0`, `f 1`, .. up to below `n`.
-abbrev pub tabled : {X : Type 0} → (ℕ → X) → ℕ → List X
-tabled f n = map f (counting 0 n)
 
 -- The row, the table and the book that stand in memory; `counts` has the number of rows of each table.
 abbrev pub rowIn : List Cell → ℕ → ℕ → ℕ → List Value

@@ -5,3 +5,6 @@ pub mod Lists
 pub mod Values
 pub mod Drafts
 pub mod Books
+pub mod Marks
+pub mod Policies
+pub mod Views

@@ -1,0 +1,114 @@
+-- What each policy means: the mark of a cell, for a broker, a table, the row's values and a column.
+use mathlib.Core.Bool.{Bool, true, false, cond, not, _&&_, _||_}
+use mathlib.Core.List.{List, [], _∷_, _++_}
+use Prim.Native.Nat.{ℕ, zero, suc}
+use lib.Dec.{eqb, ltb}
+use lib.ListN.{length, getD}
+use Rattle.std.specs.declared.option.Option.{Option}
+use Rattle.std.specs.declared.option.Option.the-variants.{Some, None}
+use Rattle.semantics.specs.declared.mark.Mark.{Mark}
+use Rattle.semantics.specs.declared.mark.Mark.the-variants.{Hidden, Linked, Shown}
+use Rattle.semantics.specs.declared.refusal.Refusal.the-variants.{NoTable, NoColumn, TooManyRules, RegisterFull}
+use Rattle.semantics.specs.declared.rule.Sign.{Sign}
+use Rattle.semantics.specs.declared.rule.Sign.the-variants.{Allow, Prohibit}
+use Rattle.semantics.specs.declared.rule.Test.{Test}
+use Rattle.semantics.specs.declared.rule.Test.the-variants.{Always, Holds}
+use Rattle.semantics.specs.declared.rule.Rule.{Rule}
+use Rattle.semantics.specs.declared.rule.Consent.{Consent}
+use Rattle.semantics.specs.Drafts.{isTable}
+use Rattle.semantics.specs.Lists.{some}
+use Rattle.semantics.specs.Marks.{narrowerMark, widerMark}
+use Rattle.semantics.specs.Outcomes.{Outcome, done, question}
+use Rattle.semantics.specs.Values.{Value, number, prefix}
+
+-- Broker, table, the values of the row, column.
+abbrev pub Meaning : Type 0
+Meaning = ℕ → ℕ → List Value → ℕ → Mark
+
+-- The number in a column of a row; none where the row has no such column or it holds a prefix.
+abbrev pub numberAt : List Value → ℕ → Option ℕ
+numberAt [] c = None
+numberAt (number n ∷ vs) zero = Some n
+numberAt (prefix ds ∷ vs) zero = None
+numberAt (v ∷ vs) (suc c) = numberAt vs c
+
+abbrev pub isNumber : ℕ → Option ℕ → Bool
+isNumber n None = false
+isNumber n (Some k) = eqb k n
+
+-- Filters. Does the test hold for the row?
+abbrev pub holds : Test → List Value → Bool
+holds Always row = true
+holds (Holds c n) row = isNumber n (numberAt row c)
+
+-- Is the rule about this broker, table and column, and does its test hold for the row?
+abbrev pub applies : ℕ → ℕ → List Value → ℕ → Rule → Bool
+applies broker t row c rule = eqb (rule .broker) broker && (eqb (rule .table) t && (eqb (rule .column) c && holds (rule .test) row))
+
+abbrev pub allows : Sign → Bool
+allows Allow = true
+allows Prohibit = false
+
+-- A cell is shown if some allowing rule applies and no prohibiting one does, else hidden.
+abbrev pub filtersMean : List Rule → Meaning
+filtersMean rules broker t row c =
+    cond
+      (some (λ rule. allows (rule .sign) && applies broker t row c rule) rules
+       && not (some (λ rule. not (allows (rule .sign)) && applies broker t row c rule) rules))
+      Shown Hidden
+
+-- The column that a test names, 0 where it names none.
+abbrev pub testColumn : Test → ℕ
+testColumn Always = 0
+testColumn (Holds c n) = c
+
+-- Adding a rule: its questions, and the rules after it.
+abbrev pub ruled : List Rule → Rule → Outcome (List Rule)
+ruled rules rule =
+    question (isTable (rule .table)) NoTable
+    (question (ltb (rule .column) 8 && ltb (testColumn (rule .test)) 8) NoColumn
+    (question (ltb (length rules) 16) TooManyRules
+    (done (rules ++ rule ∷ []))))
+
+-- Consents. The entry of a key, if it has one.
+abbrev pub consentOf : List Consent → ℕ → Option Consent
+consentOf [] key = None
+consentOf (e ∷ es) key = cond (eqb (e .key) key) (Some e) (consentOf es key)
+
+-- The mark that an entry gives a column; without an entry all is hidden.
+abbrev pub consentMark : Option Consent → ℕ → Mark
+consentMark None c = Hidden
+consentMark (Some e) c = cond (getD (e .shown) c false) Shown (cond (getD (e .linked) c false) Linked Hidden)
+
+-- The mark for a row with this key; a row without a key number is hidden.
+abbrev pub keyMark : List Consent → Option ℕ → ℕ → Mark
+keyMark entries None c = Hidden
+keyMark entries (Some key) c = consentMark (consentOf entries key) c
+
+-- The cells of table 3 have the mark of their row's key, its first cell; those of other tables are shown.
+abbrev pub consentsMean : List Consent → Meaning
+consentsMean entries broker t row c = cond (eqb t 3) (keyMark entries (numberAt row 0) c) Shown
+
+-- The entries with this one in the place of the entry of the same key.
+abbrev pub replaced : List Consent → Consent → List Consent
+replaced [] e = []
+replaced (x ∷ xs) e = cond (eqb (x .key) (e .key)) (e ∷ xs) (x ∷ replaced xs e)
+
+abbrev pub isKnown : Option Consent → Bool
+isKnown None = false
+isKnown (Some e) = true
+
+-- Setting an entry: a known key's entry is replaced, a new one is added at the end.
+abbrev pub consented : List Consent → Consent → Outcome (List Consent)
+consented entries e =
+    cond (isKnown (consentOf entries (e .key)))
+      (done (replaced entries e))
+      (question (ltb (length entries) 64) RegisterFull
+      (done (entries ++ e ∷ [])))
+
+-- Both of two policies: the narrower mark. Either: the wider.
+abbrev pub bothMean : Meaning → Meaning → Meaning
+bothMean p q broker t row c = narrowerMark (p broker t row c) (q broker t row c)
+
+abbrev pub eitherMean : Meaning → Meaning → Meaning
+eitherMean p q broker t row c = widerMark (p broker t row c) (q broker t row c)
