@@ -9,7 +9,7 @@ use Rattle.cells.specs.declared.cell.Cell.the-variants.{Number}
 use Rattle.book.specs.Columns.{listed, columnsIn}
 use Rattle.book.specs.Layout.{Clean}
 use Rattle.book.proofs.Cleaning.{clean-open}
-use Rattle.book.proofs.draft.Draft.open.Needs as need
+use Rattle.book.proofs.draft.Draft.empty.Needs as need
 
 pub ghost-result : need.ghost-result
 ghost-result c =
@@ -17,6 +17,6 @@ ghost-result c =
     ( c .args .self .four
     , ( refl
     , ( c .args .self .domains
-    , ( open-lawful S (length (c .fill .last .self)) (length-map (c .args .self .tables) listed ∙ c .args .self .four)
-    , ( subst (Clean S (0 ∷ 0 ∷ 0 ∷ 0 ∷ [])) (sym (c .fill .ensures .after (λ y e. e))) (clean-open S (0 ∷ 0 ∷ 0 ∷ 0 ∷ []) (length (c .args .cells .now)))
+    , ( open-lawful S (length (c .args .cells .now)) (length-map (c .args .self .tables) listed ∙ c .args .self .four)
+    , ( subst (Clean S (0 ∷ 0 ∷ 0 ∷ 0 ∷ [])) (sym (c .pre)) (clean-open S (0 ∷ 0 ∷ 0 ∷ 0 ∷ []) (length (c .args .cells .now)))
     , tt ) ) ) ) )
