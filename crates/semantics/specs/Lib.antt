@@ -8,3 +8,5 @@ pub mod Books
 pub mod Marks
 pub mod Policies
 pub mod Views
+pub mod Standing
+pub mod Indistinguishable

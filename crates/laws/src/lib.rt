@@ -1,0 +1,5 @@
+//! The laws of the definitions in `semantics`, each on the contract of a function, so that the check asks for its proof.
+
+mod indistinguishable;
+
+pub use indistinguishable::indistinguishable_books_have_equal_views;
