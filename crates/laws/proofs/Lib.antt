@@ -1,1 +1,2 @@
 pub mod EqualViews
+pub mod Translation

@@ -7,7 +7,7 @@ use Rattle.semantics.specs.Policies.{Meaning}
 use Rattle.semantics.specs.Views.{view}
 
 -- Books that are indistinguishable to a broker have one and the same view, index by index.
--- Where the index of a pseudonym came from the value, as its number or its rank in a sorted list, this would fail.
+-- Were the index of a pseudonym taken from the value itself, as its rank among the domain's values, this would fail.
 abbrev pub IndistinguishableBooksHaveEqualViews : Type 0
 IndistinguishableBooksHaveEqualViews =
     (meaning : Meaning) (broker : ℕ) (a b : Model) → IndistinguishableTo meaning broker a b → view meaning broker a ≡ view meaning broker b

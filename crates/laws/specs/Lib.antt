@@ -1,1 +1,2 @@
 pub mod Indistinguishable
+pub mod Wider

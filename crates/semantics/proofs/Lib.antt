@@ -6,3 +6,5 @@ pub mod Member
 pub mod Values
 pub mod Places
 pub mod Marks
+pub mod Masked
+pub mod Seen

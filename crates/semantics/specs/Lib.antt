@@ -10,3 +10,5 @@ pub mod Policies
 pub mod Views
 pub mod Standing
 pub mod Indistinguishable
+pub mod Faithful
+pub mod Wider
