@@ -1,2 +1,3 @@
 pub mod EqualViews
 pub mod Translation
+pub mod OwnValues

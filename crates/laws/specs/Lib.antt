@@ -1,2 +1,3 @@
 pub mod Indistinguishable
 pub mod Wider
+pub mod Valuations

@@ -8,3 +8,5 @@ pub mod Places
 pub mod Marks
 pub mod Masked
 pub mod Seen
+pub mod Held
+pub mod Domains

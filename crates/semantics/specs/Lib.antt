@@ -12,3 +12,5 @@ pub mod Standing
 pub mod Indistinguishable
 pub mod Faithful
 pub mod Wider
+pub mod Valuations
+pub mod Orderly
