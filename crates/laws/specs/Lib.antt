@@ -1,3 +1,4 @@
 pub mod Indistinguishable
 pub mod Wider
 pub mod Valuations
+pub mod Orderly

@@ -10,3 +10,5 @@ pub mod Masked
 pub mod Seen
 pub mod Held
 pub mod Domains
+pub mod Orderly
+pub mod Faithful
