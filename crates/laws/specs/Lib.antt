@@ -2,3 +2,4 @@ pub mod Indistinguishable
 pub mod Wider
 pub mod Valuations
 pub mod Orderly
+pub mod Kinds

@@ -39,7 +39,7 @@ module _ (m : Model) (good : Orderly m) where
   row-fits : (t r : ℕ) → r < length (rowsOf m t) → fits (columnsOf m t) (getD (rowsOf m t) r []) ≡ true
   row-fits t r h = every-at (fits (columnsOf m t)) (rowsOf m t) r [] h (rows-fit m t (good .rowsFit))
 
-  held-kind : (p : Place) → HasCell m p → sameKind (columnAt (columnsOf m (p .table)) (p .column) .kind) (kindOf (held m p)) ≡ true
+  pub held-kind : (p : Place) → HasCell m p → sameKind (columnAt (columnsOf m (p .table)) (p .column) .kind) (kindOf (held m p)) ≡ true
   held-kind p h =
       pairwise-at (λ c v. sameKind (c .kind) (kindOf v)) (columnsOf m (p .table)) (rowOf m p) (p .column) (columnAt [] 0) (number 0) refl
       (row-fits (p .table) (p .row) (h .inRows))
