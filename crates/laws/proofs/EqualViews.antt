@@ -1,5 +1,5 @@
 -- Indistinguishable books have equal views.
-use mathlib.Core.Path.{_≡_, refl, sym, ap, ap₂, subst, _∙_}
+use mathlib.Core.Path.{_≡_, refl, sym, ap, ap₂, _∙_}
 use mathlib.Core.Bool.{Bool, true, false, cond, _&&_}
 use mathlib.Core.List.{List, [], _∷_, map, List·Memᴰ, List·Memᴰ·head, List·Memᴰ·tail}
 use mathlib.Core.Logic.{_↔_}
@@ -9,7 +9,7 @@ use lib.Dec.{eqb}
 use lib.ListN.{length, getD}
 use Rattle.std.specs.Iters.{counting}
 use Rattle.std.specs.shelf.Lists.{joined, kept-by}
-use Rattle.std.proofs.shelf.Tests.{and-parts, eqb-true, false≢true}
+use Rattle.std.proofs.shelf.Tests.{and-parts, eqb-true}
 use Rattle.semantics.specs.declared.mark.Mark.{Mark}
 use Rattle.semantics.specs.declared.mark.Mark.the-variants.{Hidden, Linked, Shown}
 use Rattle.semantics.specs.Books.{Model, columnsOf, rowsOf, columnAt}
@@ -18,7 +18,7 @@ use Rattle.semantics.specs.Lists.{tabled}
 use Rattle.semantics.specs.Marks.{isMark}
 use Rattle.semantics.specs.Standing.{HasCell}
 use Rattle.semantics.specs.Values.{Value, sameValue}
-use Rattle.semantics.specs.Views.{Masked, value, variable, pseudonym, Place, placeOf, places, held, domainOf, marks, linkedPlaces, linkedValues, indexOf, masked, seen, drawn}
+use Rattle.semantics.specs.Views.{value, pseudonym, Place, placeOf, places, held, domainOf, marks, linkedPlaces, linkedValues, indexOf, masked, seen, drawn}
 use Rattle.semantics.proofs.Member.{mem-kept-back, kept-agree, joined-agree, tabled-agree, mem-counting-back}
 use Rattle.semantics.proofs.Places.{has-cell}
 use Rattle.semantics.proofs.Marks.{is-linked}

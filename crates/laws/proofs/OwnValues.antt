@@ -1,24 +1,23 @@
 -- The book's own values are a lawful valuation of its view.
-use mathlib.Core.Path.{_≡_, refl, sym, ap, ap₂, subst, _∙_}
+use mathlib.Core.Path.{_≡_, refl, sym, ap, subst, _∙_}
 use mathlib.Core.Bool.{true}
-use mathlib.Core.List.{List, map, List·Memᴰ}
-use Prim.Native.Nat.{ℕ, _<_}
+use mathlib.Core.List.{map}
+use Prim.Native.Nat.{ℕ}
 use native.Mathlib.Omega.{arith}
 use lib.ListN.{length, getD}
 use Rattle.semantics.specs.declared.mark.Mark.{Mark}
-use Rattle.semantics.specs.declared.mark.Mark.the-variants.{Linked}
 use Rattle.semantics.specs.Books.{Model, columnsOf, rowsOf, columnAt}
 use Rattle.semantics.specs.Lists.{tabled}
 use Rattle.semantics.specs.Orderly.{Orderly}
-use Rattle.semantics.specs.Standing.{HasCell, StandsIn}
-use Rattle.semantics.specs.Valuations.{isValueOf, domainKind, maskedKind, LawfulFor, valued, filled, ownValues}
+use Rattle.semantics.specs.Standing.{HasCell}
+use Rattle.semantics.specs.Valuations.{isValueOf, domainKind, LawfulFor, valued, filled, ownValues}
 use Rattle.semantics.specs.Values.{Value, number}
-use Rattle.semantics.specs.Views.{Masked, value, variable, pseudonym, Place, placeOf, held, domainOf, linkedValues, indexOf, seen, drawn}
+use Rattle.semantics.specs.Views.{Masked, value, variable, Place, placeOf, held, domainOf, linkedValues, indexOf, seen, drawn}
 use Rattle.semantics.proofs.Domains.{domain-kind}
 use Rattle.semantics.proofs.Held.{held-value, has-column, rows-held}
 use Rattle.semantics.proofs.Member.{tabled-agree, map-tabled}
 use Rattle.semantics.proofs.Seen.{Sight, as-value, as-variable, as-pseudonym, sight, at-index, in-linked, standing, Bearer, bearer}
-use Rattle.laws.specs.Valuations.{OwnValuesFill, OwnValuesAreALawfulValuation}
+use Rattle.laws.specs.Valuations.{OwnValuesAreALawfulValuation}
 
 module _ (m : Model) (good : Orderly m) (mark : Place → Mark) where
   abbrev own : Masked → Value

@@ -7,21 +7,21 @@ use Prim.Native.Nat.{ℕ, zero, suc, _≤_, _<_}
 use native.Mathlib.Omega.{arith}
 use lib.ListN.{length}
 use Rattle.semantics.specs.declared.mark.Mark.{Mark}
-use Rattle.semantics.specs.declared.mark.Mark.the-variants.{Hidden, Linked, Shown}
+use Rattle.semantics.specs.declared.mark.Mark.the-variants.{Linked, Shown}
 use Rattle.semantics.specs.Books.{Model, columnsOf, rowsOf}
 use Rattle.semantics.specs.Faithful.{Faithful, changed}
 use Rattle.semantics.specs.Lists.{tabled}
 use Rattle.semantics.specs.Marks.{rank}
 use Rattle.semantics.specs.Standing.{HasCell, StandsIn}
 use Rattle.semantics.specs.Values.{Value}
-use Rattle.semantics.specs.Views.{Masked, value, variable, pseudonym, Place, placeOf, places, held, domainOf, marks, linkedValues, indexOf, seen, drawn}
+use Rattle.semantics.specs.Views.{Masked, value, pseudonym, Place, placeOf, places, held, domainOf, marks, linkedValues, indexOf, seen, drawn}
 use Rattle.semantics.specs.Wider.{Wider, LinkedBecome, sameMasked, atFirst, translated}
 use Rattle.semantics.proofs.Marks.{widest}
 use Rattle.semantics.proofs.Masked.{same-masked, masked-same}
 use Rattle.semantics.proofs.Member.{tabled-agree, map-tabled}
 use Rattle.semantics.proofs.Places.{mem-places, has-cell}
 use Rattle.semantics.proofs.Seen.{numbered, Sight, as-value, as-variable, as-pseudonym, sight, seen-shown, seen-linked, in-linked, index-apart, held-same, Bearer, bearer}
-use Rattle.laws.specs.Wider.{Translates, TranslationGivesTheWiderView}
+use Rattle.laws.specs.Wider.{TranslationGivesTheWiderView}
 
 -- where the cells that look the same narrowly look the same widely, the first serves for all
 first-found : (n w : Place → Masked) (ps : List Place) (p : Place) → ((q : Place) → List·Memᴰ q ps → n q ≡ n p → w q ≡ w p) → List·Memᴰ p ps → atFirst n w ps (n p) ≡ w p

@@ -1,23 +1,21 @@
 -- The kind of a domain is the kind of each of its columns.
-use mathlib.Core.Path.{_≡_, refl, sym, ap, ap₂, subst, _∙_}
-use mathlib.Core.Bool.{Bool, true, false, cond, not, _&&_, _||_}
+use mathlib.Core.Path.{_≡_, refl, sym, ap, _∙_}
+use mathlib.Core.Bool.{Bool, true, false, cond}
 use mathlib.Core.List.{List, [], _∷_, List·Memᴰ, List·Memᴰ·head, List·Memᴰ·tail}
 use Prim.Native.Nat.{ℕ, _<_}
 use native.Mathlib.Omega.{arith}
-use lib.Dec.{ltb, eqb}
-use lib.ListN.{length, getD}
+use lib.Dec.{eqb}
 use Rattle.std.specs.shelf.Lists.{joined}
 use Rattle.std.proofs.shelf.Tests.{and-parts, eqb-true, eq-eqb, false≢true}
 use Rattle.std.proofs.shelf.Ways.{tells}
 use Rattle.semantics.specs.declared.kind.Kind.{Kind}
 use Rattle.semantics.specs.declared.kind.Kind.the-variants.{Number, Prefix}
 use Rattle.semantics.specs.declared.kind.Column.{Column}
-use Rattle.semantics.specs.Books.{columnAt}
 use Rattle.semantics.specs.Drafts.{suits, agree, admits, agreed}
 use Rattle.semantics.specs.Kinds.{sameKind}
 use Rattle.semantics.specs.Lists.{every}
 use Rattle.semantics.specs.Valuations.{firstKind, domainKind}
-use Rattle.semantics.proofs.Member.{mem-joined, mem-joined-back, mem-getD}
+use Rattle.semantics.proofs.Member.{mem-joined-back}
 
 pub same-kind : (k l : Kind) → sameKind k l ≡ true → k ≡ l
 same-kind Number Number e = refl

@@ -1,7 +1,7 @@
 -- A lawful valuation is a faithful change of a view's cells.
-use mathlib.Core.Path.{_≡_, refl, sym, ap, _∙_}
+use mathlib.Core.Path.{_≡_, refl}
 use mathlib.Core.List.{List}
-use mathlib.Core.Logic.{_⊎_, inl, inr}
+use mathlib.Core.Logic.{inr}
 use Rattle.semantics.specs.declared.kind.Column.{Column}
 use Rattle.semantics.specs.Faithful.{Faithful}
 use Rattle.semantics.specs.Valuations.{Valuation, LawfulFor, valued}

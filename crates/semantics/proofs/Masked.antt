@@ -1,11 +1,10 @@
 -- The test whether two masked cells are identical says just that they are equal.
-use mathlib.Core.Path.{_≡_, refl, sym, ap, ap₂, subst}
-use mathlib.Core.Bool.{Bool, true, false, _&&_}
+use mathlib.Core.Path.{_≡_, refl, ap, subst}
+use mathlib.Core.Bool.{true, false}
 use Prim.Native.Nat.{ℕ}
 use native.Mathlib.Omega.{arith}
 use lib.Dec.{eqb}
-use Rattle.std.proofs.shelf.Tests.{and-parts, and-from, eqb-true, eq-eqb, false≢true}
-use Rattle.semantics.specs.Values.{Value}
+use Rattle.std.proofs.shelf.Tests.{and-parts, eqb-true, eq-eqb, false≢true}
 use Rattle.semantics.specs.Views.{Masked, value, variable, pseudonym}
 use Rattle.semantics.specs.Wider.{sameMasked}
 use Rattle.semantics.proofs.Values.{same-value, value-self}

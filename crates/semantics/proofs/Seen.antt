@@ -1,7 +1,7 @@
 -- How a cell is seen, and which cell a symbol of a view stands for.
-use mathlib.Core.Path.{_≡_, refl, sym, ap, ap₂, subst, _∙_}
+use mathlib.Core.Path.{_≡_, refl, sym, ap, subst, _∙_}
 use mathlib.Core.Bool.{Bool, true, false, cond, _&&_}
-use mathlib.Core.List.{List, [], _∷_, map, List·Memᴰ, List·Memᴰ·head, List·Memᴰ·tail}
+use mathlib.Core.List.{List, [], _∷_, List·Memᴰ, List·Memᴰ·head, List·Memᴰ·tail}
 use Prim.Native.Nat.{ℕ, zero, suc, _+_, _<_}
 use native.Mathlib.Numerals.{add-one}
 use native.Mathlib.Omega.{arith}
@@ -15,7 +15,7 @@ use Rattle.semantics.specs.Lists.{tabled}
 use Rattle.semantics.specs.Marks.{isMark}
 use Rattle.semantics.specs.Standing.{HasCell, StandsIn}
 use Rattle.semantics.specs.Values.{Value, number, sameValue}
-use Rattle.semantics.specs.Views.{Masked, value, variable, pseudonym, Place, placeOf, places, held, domainOf, linkedPlaces, linkedValues, indexOf, masked, seen, drawn}
+use Rattle.semantics.specs.Views.{Masked, value, variable, pseudonym, Place, placeOf, held, domainOf, linkedValues, indexOf, masked, seen, drawn}
 use Rattle.semantics.proofs.Member.{mem-map, mem-kept, mem-tabled, mem-tabled-back}
 use Rattle.semantics.proofs.Places.{mem-places}
 use Rattle.semantics.proofs.Values.{same-value, value-same}

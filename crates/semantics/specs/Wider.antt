@@ -11,7 +11,7 @@ use Rattle.semantics.specs.Books.{Model}
 use Rattle.semantics.specs.Marks.{rank}
 use Rattle.semantics.specs.Policies.{Meaning}
 use Rattle.semantics.specs.Standing.{HasCell}
-use Rattle.semantics.specs.Values.{Value, sameValue}
+use Rattle.semantics.specs.Values.{sameValue}
 use Rattle.semantics.specs.Views.{Masked, value, variable, pseudonym, Place, placeOf, places, domainOf, marks, seen}
 
 -- Every cell of the domain that `narrow` links has this mark under `wide`.
