@@ -2,3 +2,13 @@ pub mod Every
 pub mod Lawful
 pub mod Agreed
 pub mod Same
+pub mod Member
+pub mod Values
+pub mod Places
+pub mod Marks
+pub mod Masked
+pub mod Seen
+pub mod Held
+pub mod Domains
+pub mod Orderly
+pub mod Faithful

@@ -8,3 +8,9 @@ pub mod Books
 pub mod Marks
 pub mod Policies
 pub mod Views
+pub mod Standing
+pub mod Indistinguishable
+pub mod Faithful
+pub mod Wider
+pub mod Valuations
+pub mod Orderly
