@@ -1,4 +1,5 @@
 -- What each policy means: the mark of a cell, for a broker, a table, the row's values and a column.
+use mathlib.Core.Path.{_≡_}
 use mathlib.Core.Bool.{Bool, true, false, cond, not, _&&_, _||_}
 use mathlib.Core.List.{List, [], _∷_, _++_}
 use Prim.Native.Nat.{ℕ, zero, suc}
@@ -6,8 +7,11 @@ use lib.Dec.{eqb, ltb}
 use lib.ListN.{length, getD}
 use Rattle.std.specs.declared.option.Option.{Option}
 use Rattle.std.specs.declared.option.Option.the-variants.{Some, None}
+use Rattle.std.specs.declared.result.Result.{Result}
+use Rattle.std.specs.declared.result.Result.the-variants.{Ok, Err}
 use Rattle.semantics.specs.declared.mark.Mark.{Mark}
 use Rattle.semantics.specs.declared.mark.Mark.the-variants.{Hidden, Linked, Shown}
+use Rattle.semantics.specs.declared.refusal.Refusal.{Refusal}
 use Rattle.semantics.specs.declared.refusal.Refusal.the-variants.{NoTable, NoColumn, TooManyRules, RegisterFull}
 use Rattle.semantics.specs.declared.rule.Sign.{Sign}
 use Rattle.semantics.specs.declared.rule.Sign.the-variants.{Allow, Prohibit}
@@ -25,11 +29,15 @@ use Rattle.semantics.specs.Values.{Value, number, prefix}
 abbrev pub Meaning : Type 0
 Meaning = ℕ → ℕ → List Value → ℕ → Mark
 
+-- The number that a value is, if it is one.
+abbrev pub numberIn : Value → Option ℕ
+numberIn (number n) = Some n
+numberIn (prefix ds) = None
+
 -- The number in a column of a row; none where the row has no such column or it holds a prefix.
 abbrev pub numberAt : List Value → ℕ → Option ℕ
 numberAt [] c = None
-numberAt (number n ∷ vs) zero = Some n
-numberAt (prefix ds ∷ vs) zero = None
+numberAt (v ∷ vs) zero = numberIn v
 numberAt (v ∷ vs) (suc c) = numberAt vs c
 
 abbrev pub isNumber : ℕ → Option ℕ → Bool
@@ -49,13 +57,16 @@ abbrev pub allows : Sign → Bool
 allows Allow = true
 allows Prohibit = false
 
+-- Does some allowing rule apply? Some prohibiting one?
+abbrev pub allowed : List Rule → ℕ → ℕ → List Value → ℕ → Bool
+allowed rules broker t row c = some (λ rule. allows (rule .sign) && applies broker t row c rule) rules
+
+abbrev pub prohibited : List Rule → ℕ → ℕ → List Value → ℕ → Bool
+prohibited rules broker t row c = some (λ rule. not (allows (rule .sign)) && applies broker t row c rule) rules
+
 -- A cell is shown if some allowing rule applies and no prohibiting one does, else hidden.
 abbrev pub filtersMean : List Rule → Meaning
-filtersMean rules broker t row c =
-    cond
-      (some (λ rule. allows (rule .sign) && applies broker t row c rule) rules
-       && not (some (λ rule. not (allows (rule .sign)) && applies broker t row c rule) rules))
-      Shown Hidden
+filtersMean rules broker t row c = cond (allowed rules broker t row c && not (prohibited rules broker t row c)) Shown Hidden
 
 -- The column that a test names, 0 where it names none.
 abbrev pub testColumn : Test → ℕ
@@ -69,6 +80,14 @@ ruled rules rule =
     (question (ltb (rule .column) 8 && ltb (testColumn (rule .test)) 8) NoColumn
     (question (ltb (length rules) 16) TooManyRules
     (done (rules ++ rule ∷ []))))
+
+-- What filters mean once a rule is added: where it applies, a prohibiting rule hides the cell, and an allowing one
+-- shows it unless a rule prohibits it. All else is as before.
+abbrev pub ruledMean : List Rule → Rule → Meaning
+ruledMean rules rule broker t row c =
+    cond (applies broker t row c rule)
+    (cond (allows (rule .sign) && not (prohibited rules broker t row c)) Shown Hidden)
+    (filtersMean rules broker t row c)
 
 -- Consents. The entry of a key, if it has one.
 abbrev pub consentOf : List Consent → ℕ → Option Consent
@@ -102,9 +121,14 @@ isKnown (Some e) = true
 abbrev pub consented : List Consent → Consent → Outcome (List Consent)
 consented entries e =
     cond (isKnown (consentOf entries (e .key)))
-      (done (replaced entries e))
-      (question (ltb (length entries) 64) RegisterFull
-      (done (entries ++ e ∷ [])))
+    (done (replaced entries e))
+    (question (ltb (length entries) 64) RegisterFull
+    (done (entries ++ e ∷ [])))
+
+-- What consents mean once an entry is set: rows of table 3 with its key have its marks. All else is as before.
+abbrev pub consentedMean : List Consent → Consent → Meaning
+consentedMean entries e broker t row c =
+    cond (eqb t 3 && isNumber (e .key) (numberAt row 0)) (consentMark (Some e) c) (consentsMean entries broker t row c)
 
 -- Both of two policies: the narrower mark. Either: the wider.
 abbrev pub bothMean : Meaning → Meaning → Meaning
@@ -112,3 +136,12 @@ bothMean p q broker t row c = narrowerMark (p broker t row c) (q broker t row c)
 
 abbrev pub eitherMean : Meaning → Meaning → Meaning
 eitherMean p q broker t row c = widerMark (p broker t row c) (q broker t row c)
+
+-- The two give every question the same mark.
+abbrev pub SameMeaning : Meaning → Meaning → Type 0
+SameMeaning p q = (broker t : ℕ) (row : List Value) (c : ℕ) → p broker t row c ≡ q broker t row c
+
+-- The code answers `r` and alters a policy: it then means the new, or on refusal what it meant before.
+abbrev pub Means : {T : Type 0} → Result T Refusal → Meaning → Meaning → Meaning → Type 0
+Means (Ok u) before new after = SameMeaning after new
+Means (Err e) before new after = SameMeaning after before

@@ -1,0 +1,13 @@
+ghost use mathlib.Core.Path.{_≡_};
+ghost use Prim.Native.Nat.{_≤_};
+ghost use lib.ListN.{length};
+use semantics::Consent;
+
+/// A register of at most 64 entries, each with a key of its own: the first `count` of `list`.
+#[derive(Drop)]
+pub struct Consents {
+    pub(crate) list: [Consent; 64],
+    pub(crate) count: usize,
+    ghost short: { count ≤ 64 },
+    ghost full: { length list ≡ 64 },
+}
