@@ -7,6 +7,8 @@ mod filter;
 mod filters;
 mod number;
 mod policy;
+#[cfg(test)]
+mod tests;
 
 pub use combine::Both;
 pub use combine::BothPolicy;
