@@ -93,7 +93,7 @@ impl Consents {
             self.list[place] = consent;
             return Ok(());
         }
-        if self.count >= 64 {
+        if self.count >= self.list.len() {
             return Err(Refusal::RegisterFull);
         }
         self.list[self.count] = consent;

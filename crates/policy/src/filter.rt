@@ -81,7 +81,7 @@ impl Filters {
         if rule.column >= 8 || test_column(rule.test) >= 8 {
             return Err(Refusal::NoColumn);
         }
-        if self.count >= 16 {
+        if self.count >= self.list.len() {
             return Err(Refusal::TooManyRules);
         }
         self.list[self.count] = rule;
