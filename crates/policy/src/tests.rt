@@ -72,12 +72,10 @@ fn prohibit_beats_allow() -> Result<(), Fail> {
     filters.add(Rule { broker: 7, table: 0, column: 0, sign: Sign::Allow, test: Test::Always })?;
     let one = [prefix()?, Cell::Number(1)];
     let two = [prefix()?, Cell::Number(2)];
-    check_eq(filters.mark(7, 0, &one, 0), Mark::Shown)?;
-    check_eq(filters.mark(7, 0, &two, 0), Mark::Hidden)?;
-    check_eq(filters.mark(8, 0, &one, 0), Mark::Hidden).note("another broker")?;
-    check_eq(filters.mark(7, 1, &one, 0), Mark::Hidden).note("another table")?;
-    check_eq(filters.mark(7, 0, &one, 1), Mark::Hidden).note("another column")?;
-    check_eq(filters.mark(7, 0, &[], 0), Mark::Shown).note("the test has no column")
+    let own = [filters.mark(7, 0, &one, 0), filters.mark(7, 0, &two, 0), filters.mark(7, 0, &[], 0)];
+    check_eq(own, [Mark::Shown, Mark::Hidden, Mark::Shown])?;
+    let others = [filters.mark(8, 0, &one, 0), filters.mark(7, 1, &one, 0), filters.mark(7, 0, &one, 1)];
+    check_eq(others, [Mark::Hidden; 3]).note("another broker, table or column")
 }
 
 #[test]
@@ -85,9 +83,10 @@ fn tests_want_a_number() -> Result<(), Fail> {
     let mut filters = Filters::new();
     filters.add(Rule { broker: 7, table: 0, column: 0, sign: Sign::Allow, test: Test::Holds { column: 1, number: 47 } })?;
     check_eq(filters.mark(7, 0, &[Cell::Number(1), Cell::Number(47)], 0), Mark::Shown)?;
-    check_eq(filters.mark(7, 0, &[Cell::Number(47), Cell::Number(1)], 0), Mark::Hidden).note("another number")?;
-    check_eq(filters.mark(7, 0, &[Cell::Number(47)], 0), Mark::Hidden).note("no such column")?;
-    check_eq(filters.mark(7, 0, &[Cell::Number(1), prefix()?], 0), Mark::Hidden).note("a prefix")
+    let other = filters.mark(7, 0, &[Cell::Number(47), Cell::Number(1)], 0);
+    let missing = filters.mark(7, 0, &[Cell::Number(47)], 0);
+    let digits = filters.mark(7, 0, &[Cell::Number(1), prefix()?], 0);
+    check_eq([other, missing, digits], [Mark::Hidden; 3])
 }
 
 #[test]
@@ -97,11 +96,12 @@ fn consents_take_sixty_four_keys() -> Result<(), Fail> {
         consents.set(consent(key))?;
     }
     check_eq(refused(consents.set(consent(64))), 24)?;
-    check_eq(consents.mark(7, 3, &[Cell::Number(64)], 0), Mark::Hidden)?;
-    check_eq(consents.mark(7, 3, &[Cell::Number(5)], 0), Mark::Shown)?;
     consents.set(Consent { key: 5, shown: [false; 8], linked: [true; 8] })?;
-    check_eq(consents.mark(7, 3, &[Cell::Number(5)], 0), Mark::Linked).note("the entry is replaced")?;
-    check_eq(consents.mark(7, 3, &[Cell::Number(63)], 0), Mark::Shown)?;
+    let first = consents.mark(7, 3, &[Cell::Number(0)], 0);
+    let replaced = consents.mark(7, 3, &[Cell::Number(5)], 0);
+    let last = consents.mark(7, 3, &[Cell::Number(63)], 0);
+    let past = consents.mark(7, 3, &[Cell::Number(64)], 0);
+    check_eq([first, replaced, last, past], [Mark::Shown, Mark::Linked, Mark::Shown, Mark::Hidden])?;
     check_eq(consents.entries().len(), 64)
 }
 
@@ -110,17 +110,17 @@ fn consents_mark_table_three() -> Result<(), Fail> {
     let mut consents = Consents::new();
     consents.set(consent(9))?;
     let row = [Cell::Number(9), Cell::Number(4)];
-    check_eq(consents.mark(7, 3, &row, 0), Mark::Shown)?;
-    check_eq(consents.mark(7, 3, &row, 1), Mark::Linked)?;
-    check_eq(consents.mark(7, 3, &row, 2), Mark::Shown).note("in both lists")?;
-    check_eq(consents.mark(7, 3, &row, 3), Mark::Hidden).note("in neither")?;
-    check_eq(consents.mark(7, 3, &row, 7), Mark::Shown)?;
-    check_eq(consents.mark(7, 3, &row, 8), Mark::Hidden).note("past the columns")?;
-    check_eq(consents.mark(7, 3, &[Cell::Number(4)], 0), Mark::Hidden).note("no entry")?;
-    check_eq(consents.mark(7, 3, &[prefix()?], 0), Mark::Hidden).note("the key is a prefix")?;
-    check_eq(consents.mark(7, 3, &[], 0), Mark::Hidden).note("no key")?;
-    check_eq(consents.mark(7, 2, &[], 8), Mark::Shown).note("another table")?;
-    check_eq(consents.mark(7, 4, &row, 3), Mark::Shown).note("no table")
+    let mut marks = [Mark::Hidden; 9];
+    for (column, mark) in marks.iter_mut().enumerate() {
+        *mark = consents.mark(7, 3, &row, column);
+    }
+    let none = Mark::Hidden;
+    check_eq(marks, [Mark::Shown, Mark::Linked, Mark::Shown, none, none, none, none, Mark::Shown, none])?;
+    let unknown = consents.mark(7, 3, &[Cell::Number(4)], 0);
+    let digits = consents.mark(7, 3, &[prefix()?], 0);
+    let empty = consents.mark(7, 3, &[], 0);
+    check_eq([unknown, digits, empty], [none; 3]).note("no entry, a prefix and no cell as the key")?;
+    check_eq([consents.mark(7, 2, &[], 8), consents.mark(7, 4, &row, 3)], [Mark::Shown; 2]).note("other tables")
 }
 
 #[test]
@@ -135,11 +135,9 @@ fn policies_stack() -> Result<(), Fail> {
     let stack = Both { first: Either { first: narrow, second: consents }, second: wide };
     let known = [Cell::Number(9), Cell::Number(4), Cell::Number(4)];
     let unknown = [Cell::Number(8), Cell::Number(4), Cell::Number(4)];
-    check_eq(stack.mark(7, 3, &known, 0), Mark::Shown).note("consented, and allowed by the wide rules")?;
-    check_eq(stack.mark(7, 3, &unknown, 0), Mark::Hidden).note("not consented")?;
-    check_eq(stack.mark(7, 3, &unknown, 1), Mark::Shown).note("allowed by all rules")?;
-    check_eq(stack.mark(7, 3, &known, 2), Mark::Hidden).note("consented, and not allowed")?;
-    check_eq(stack.mark(8, 3, &known, 0), Mark::Hidden).note("another broker")?;
-    let linking = Either { first: stack.first, second: stack.second };
-    check_eq(linking.mark(8, 3, &known, 1), Mark::Linked).note("linked by consent, and allowed by no rule")
+    let shown = [stack.mark(7, 3, &known, 0), stack.mark(7, 3, &unknown, 1)];
+    check_eq(shown, [Mark::Shown; 2]).note("by consent and the wide rules, and by all rules")?;
+    let hidden = [stack.mark(7, 3, &unknown, 0), stack.mark(7, 3, &known, 2), stack.mark(8, 3, &known, 0)];
+    check_eq(hidden, [Mark::Hidden; 3]).note("no consent, no rule, another broker")?;
+    check_eq(stack.first.mark(8, 3, &known, 1), Mark::Linked).note("by consent, and by no rule")
 }
