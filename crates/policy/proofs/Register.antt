@@ -1,6 +1,6 @@
 -- The entries of a register: finding one, and setting one.
 use mathlib.Core.Path.{_≡_, refl, sym, ap, _∙_}
-use mathlib.Core.Bool.{Bool, true, false, cond, _&&_}
+use mathlib.Core.Bool.{Bool, true, false, cond, not, _&&_, _||_}
 use mathlib.Core.List.{List, [], _∷_, _++_}
 use mathlib.Core.Logic.{⊎-elim}
 use Prim.Native.Nat.{ℕ, _+_, _<_, _≤_, zero, suc}
@@ -11,14 +11,14 @@ use lib.ListN.{length, getD, take, drop, set}
 use Rattle.std.specs.declared.option.Option.{Option}
 use Rattle.std.specs.declared.option.Option.the-variants.{Some, None}
 use Rattle.std.proofs.shelf.Lists.{at-drop-more, at-drop-all, getD-take, length-take-le, take-more-set}
-use Rattle.std.proofs.shelf.Tests.{lt-ltb, le-ltb, cases-bool, cond-true, cond-false, cond-both}
+use Rattle.std.proofs.shelf.Tests.{lt-ltb, le-ltb, ne-eqb, eqb-true, eqb-false, and-parts, and-from, cases-bool, cond-true, cond-false, cond-both}
 use Rattle.std.proofs.shelf.Ways.{tells}
 use Rattle.semantics.specs.declared.mark.Mark.{Mark}
 use Rattle.semantics.specs.declared.mark.Mark.the-variants.{Shown}
 use Rattle.semantics.specs.declared.refusal.Refusal.the-variants.{RegisterFull}
 use Rattle.semantics.specs.declared.rule.Consent.{Consent}
 use Rattle.semantics.specs.Outcomes.{done, refuse}
-use Rattle.semantics.specs.Policies.{numberAt, isNumber, consentOf, consentMark, keyMark, consentsMean, replaced, consented, consentedMean, SameMeaning}
+use Rattle.semantics.specs.Policies.{numberAt, isNumber, consentOf, consentMark, keyMark, consentsMean, replaced, isKnown, keysApart, consented, consentedMean, SameMeaning}
 use Rattle.semantics.specs.Values.{Value}
 use Rattle.policy.specs.Consents.{placeFrom}
 
@@ -126,6 +126,53 @@ pushed-set (x ∷ xs) e h =
     (λ (f : eqb (x .key) (e .key) ≡ false). under x xs (xs ++ e ∷ []) e f (pushed-set xs e (sym (cond-false _ (Some x) (consentOf xs (e .key)) f) ∙ h)))
     (cases-bool (eqb (x .key) (e .key)))
 
+-- the keys stay apart
+known-cons : (x : Consent) (xs : List Consent) (k : ℕ) → isKnown (consentOf (x ∷ xs) k) ≡ (eqb (x .key) k || isKnown (consentOf xs k))
+known-cons x xs k = elim (eqb (x .key) k) as (λ b. isKnown (cond b (Some x) (consentOf xs k)) ≡ (b || isKnown (consentOf xs k))) [ true ↦ refl | false ↦ refl ]
+
+known-replaced : (es : List Consent) (e : Consent) (k : ℕ) → isKnown (consentOf (replaced es e) k) ≡ isKnown (consentOf es k)
+known-replaced [] e k = refl
+known-replaced (x ∷ xs) e k =
+    ⊎-elim
+      (λ (t : eqb (x .key) (e .key) ≡ true).
+        ap (λ es. isKnown (consentOf es k)) (cond-true _ (e ∷ xs) (x ∷ replaced xs e) t)
+        ∙ (known-cons e xs k ∙ (ap (λ key. eqb key k || isKnown (consentOf xs k)) (sym (eqb-true (x .key) (e .key) t)) ∙ sym (known-cons x xs k))))
+      (λ (f : eqb (x .key) (e .key) ≡ false).
+        ap (λ es. isKnown (consentOf es k)) (cond-false _ (e ∷ xs) (x ∷ replaced xs e) f)
+        ∙ (known-cons x (replaced xs e) k ∙ (ap (λ b. eqb (x .key) k || b) (known-replaced xs e k) ∙ sym (known-cons x xs k))))
+      (cases-bool (eqb (x .key) (e .key)))
+
+replaced-apart : (es : List Consent) (e : Consent) → keysApart es ≡ true → keysApart (replaced es e) ≡ true
+replaced-apart [] e h = refl
+replaced-apart (x ∷ xs) e h =
+    let p = and-parts (not (isKnown (consentOf xs (x .key)))) (keysApart xs) h in
+    ⊎-elim
+      (λ (t : eqb (x .key) (e .key) ≡ true).
+        ap keysApart (cond-true _ (e ∷ xs) (x ∷ replaced xs e) t)
+        ∙ and-from (not (isKnown (consentOf xs (e .key)))) (keysApart xs) (ap (λ k. not (isKnown (consentOf xs k))) (sym (eqb-true (x .key) (e .key) t)) ∙ p .0) (p .1))
+      (λ (f : eqb (x .key) (e .key) ≡ false).
+        ap keysApart (cond-false _ (e ∷ xs) (x ∷ replaced xs e) f)
+        ∙ and-from (not (isKnown (consentOf (replaced xs e) (x .key)))) (keysApart (replaced xs e)) (ap not (known-replaced xs e (x .key)) ∙ p .0) (replaced-apart xs e (p .1)))
+      (cases-bool (eqb (x .key) (e .key)))
+
+pushed-other : (es : List Consent) (e : Consent) (k : ℕ) → eqb (e .key) k ≡ false → consentOf (es ++ e ∷ []) k ≡ consentOf es k
+pushed-other [] e k f = rw f
+pushed-other (x ∷ xs) e k f = ap (λ o. cond (eqb (x .key) k) (Some x) o) (pushed-other xs e k f)
+
+pushed-apart : (es : List Consent) (e : Consent) → consentOf es (e .key) ≡ None → keysApart es ≡ true → keysApart (es ++ e ∷ []) ≡ true
+pushed-apart [] e none h = refl
+pushed-apart (x ∷ xs) e none h =
+    let p = and-parts (not (isKnown (consentOf xs (x .key)))) (keysApart xs) h in
+    ⊎-elim
+      (λ (t : eqb (x .key) (e .key) ≡ true).
+        let q : Some x ≡ None = sym (cond-true _ (Some x) (consentOf xs (e .key)) t) ∙ none in
+        let z : _≡_ {A = ℕ} 0 1 = cc in absurd (omega arith))
+      (λ (f : eqb (x .key) (e .key) ≡ false).
+        and-from (not (isKnown (consentOf (xs ++ e ∷ []) (x .key)))) (keysApart (xs ++ e ∷ []))
+        (ap (λ o. not (isKnown o)) (pushed-other xs e (x .key) (ne-eqb (e .key) (x .key) (λ same. eqb-false (x .key) (e .key) f (sym same)))) ∙ p .0)
+        (pushed-apart xs e (sym (cond-false _ (Some x) (consentOf xs (e .key)) f) ∙ none) (p .1)))
+      (cases-bool (eqb (x .key) (e .key)))
+
 -- what the register means after that
 module _ (es new : List Consent) (e : Consent) (is : Set es new e) where
   key-mark : (o : Option ℕ) (c : ℕ) → keyMark new o c ≡ cond (isNumber (e .key) o) (consentMark (Some e) c) (keyMark es o c)
@@ -173,6 +220,9 @@ module _ (list : List Consent) (n : ℕ) (room : n ≤ length list) where
     pub replaces : consented (take n list) e ≡ done (take n (set list i e))
     replaces = rw (known, written)
 
+    pub replaces-apart : keysApart (take n list) ≡ true → keysApart (take n (set list i e)) ≡ true
+    replaces-apart h = rw written (replaced-apart (take n list) e h)
+
     pub replaces-means : SameMeaning (consentsMean (take n (set list i e))) (consentedMean (take n list) e)
     replaces-means = rw written (replaced-means (take n list) e (getD list i e) known)
 
@@ -190,6 +240,9 @@ module _ (list : List Consent) (n : ℕ) (room : n ≤ length list) where
 
       pub adds : n < 64 → consented (take n list) e ≡ done (take (n + 1) (set list n e))
       adds h = rw (new, count, lt-ltb n 64 h, added)
+
+      pub adds-apart : keysApart (take n list) ≡ true → keysApart (take (n + 1) (set list n e)) ≡ true
+      adds-apart h = rw added (pushed-apart (take n list) e new h)
 
       pub adds-means : SameMeaning (consentsMean (take (n + 1) (set list n e))) (consentedMean (take n list) e)
       adds-means = rw added (pushed-means (take n list) e new)

@@ -1,10 +1,10 @@
 ghost use mathlib.Core.Path.{_≡_};
-ghost use mathlib.Core.Bool.{false};
+ghost use mathlib.Core.Bool.{true, false};
 ghost use mathlib.Core.List.{[]};
 ghost use lib.ListN.{getD};
 ghost use Rattle.std.specs.declared.option.Option.the-variants.{Some};
 ghost use Rattle.semantics.specs.Outcomes.{Steps, Kept};
-ghost use Rattle.semantics.specs.Policies.{consentOf, consentMark, consented, consentedMean, Means};
+ghost use Rattle.semantics.specs.Policies.{consentOf, consentMark, keysApart, consented, consentedMean, Means};
 ghost use Rattle.policy.specs.Consents.{entriesOf, consentsMeaning, placeFrom};
 use crate::consents::Consents;
 use crate::number::number_at;
@@ -55,9 +55,10 @@ impl Consents {
         }
     }
 
-    /// The entries, in the order in which their keys were first set.
+    /// The entries, in the order in which their keys were first set. No two have the same key.
     pub fn entries(&self) -> &[Consent]
-        ensures { λ r. ⌜ now r ≡ entriesOf (now (self .entry)) ⌝ }
+        ensures value { λ r. ⌜ now r ≡ entriesOf (now (self .entry)) ⌝ }
+        ensures apart { λ r. ⌜ keysApart (now r) ≡ true ⌝ }
     {
         &self.list[0..self.count]
     }

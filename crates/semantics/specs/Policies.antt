@@ -117,6 +117,11 @@ abbrev pub isKnown : Option Consent → Bool
 isKnown None = false
 isKnown (Some e) = true
 
+-- Have no two entries the same key? This holds of all entries that settings make.
+abbrev pub keysApart : List Consent → Bool
+keysApart [] = true
+keysApart (e ∷ es) = not (isKnown (consentOf es (e .key))) && keysApart es
+
 -- Setting an entry: a known key's entry is replaced, a new one is added at the end.
 abbrev pub consented : List Consent → Consent → Outcome (List Consent)
 consented entries e =
