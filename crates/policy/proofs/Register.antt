@@ -134,26 +134,26 @@ known-replaced : (es : List Consent) (e : Consent) (k : ℕ) → isKnown (consen
 known-replaced [] e k = refl
 known-replaced (x ∷ xs) e k =
     ⊎-elim
-      (λ (t : eqb (x .key) (e .key) ≡ true).
-        ap (λ es. isKnown (consentOf es k)) (cond-true _ (e ∷ xs) (x ∷ replaced xs e) t)
-        ∙ (known-cons e xs k ∙ (ap (λ key. eqb key k || isKnown (consentOf xs k)) (sym (eqb-true (x .key) (e .key) t)) ∙ sym (known-cons x xs k))))
-      (λ (f : eqb (x .key) (e .key) ≡ false).
-        ap (λ es. isKnown (consentOf es k)) (cond-false _ (e ∷ xs) (x ∷ replaced xs e) f)
-        ∙ (known-cons x (replaced xs e) k ∙ (ap (λ b. eqb (x .key) k || b) (known-replaced xs e k) ∙ sym (known-cons x xs k))))
-      (cases-bool (eqb (x .key) (e .key)))
+    (λ (t : eqb (x .key) (e .key) ≡ true).
+    ap (λ es. isKnown (consentOf es k)) (cond-true _ (e ∷ xs) (x ∷ replaced xs e) t)
+    ∙ (known-cons e xs k ∙ (ap (λ key. eqb key k || isKnown (consentOf xs k)) (sym (eqb-true (x .key) (e .key) t)) ∙ sym (known-cons x xs k))))
+    (λ (f : eqb (x .key) (e .key) ≡ false).
+    ap (λ es. isKnown (consentOf es k)) (cond-false _ (e ∷ xs) (x ∷ replaced xs e) f)
+    ∙ (known-cons x (replaced xs e) k ∙ (ap (λ b. eqb (x .key) k || b) (known-replaced xs e k) ∙ sym (known-cons x xs k))))
+    (cases-bool (eqb (x .key) (e .key)))
 
 replaced-apart : (es : List Consent) (e : Consent) → keysApart es ≡ true → keysApart (replaced es e) ≡ true
 replaced-apart [] e h = refl
 replaced-apart (x ∷ xs) e h =
     let p = and-parts (not (isKnown (consentOf xs (x .key)))) (keysApart xs) h in
     ⊎-elim
-      (λ (t : eqb (x .key) (e .key) ≡ true).
-        ap keysApart (cond-true _ (e ∷ xs) (x ∷ replaced xs e) t)
-        ∙ and-from (not (isKnown (consentOf xs (e .key)))) (keysApart xs) (ap (λ k. not (isKnown (consentOf xs k))) (sym (eqb-true (x .key) (e .key) t)) ∙ p .0) (p .1))
-      (λ (f : eqb (x .key) (e .key) ≡ false).
-        ap keysApart (cond-false _ (e ∷ xs) (x ∷ replaced xs e) f)
-        ∙ and-from (not (isKnown (consentOf (replaced xs e) (x .key)))) (keysApart (replaced xs e)) (ap not (known-replaced xs e (x .key)) ∙ p .0) (replaced-apart xs e (p .1)))
-      (cases-bool (eqb (x .key) (e .key)))
+    (λ (t : eqb (x .key) (e .key) ≡ true).
+    ap keysApart (cond-true _ (e ∷ xs) (x ∷ replaced xs e) t)
+    ∙ and-from (not (isKnown (consentOf xs (e .key)))) (keysApart xs) (ap (λ k. not (isKnown (consentOf xs k))) (sym (eqb-true (x .key) (e .key) t)) ∙ p .0) (p .1))
+    (λ (f : eqb (x .key) (e .key) ≡ false).
+    ap keysApart (cond-false _ (e ∷ xs) (x ∷ replaced xs e) f)
+    ∙ and-from (not (isKnown (consentOf (replaced xs e) (x .key)))) (keysApart (replaced xs e)) (ap not (known-replaced xs e (x .key)) ∙ p .0) (replaced-apart xs e (p .1)))
+    (cases-bool (eqb (x .key) (e .key)))
 
 pushed-other : (es : List Consent) (e : Consent) (k : ℕ) → eqb (e .key) k ≡ false → consentOf (es ++ e ∷ []) k ≡ consentOf es k
 pushed-other [] e k f = rw f
@@ -164,14 +164,14 @@ pushed-apart [] e none h = refl
 pushed-apart (x ∷ xs) e none h =
     let p = and-parts (not (isKnown (consentOf xs (x .key)))) (keysApart xs) h in
     ⊎-elim
-      (λ (t : eqb (x .key) (e .key) ≡ true).
-        let q : Some x ≡ None = sym (cond-true _ (Some x) (consentOf xs (e .key)) t) ∙ none in
-        let z : _≡_ {A = ℕ} 0 1 = cc in absurd (omega arith))
-      (λ (f : eqb (x .key) (e .key) ≡ false).
-        and-from (not (isKnown (consentOf (xs ++ e ∷ []) (x .key)))) (keysApart (xs ++ e ∷ []))
-        (ap (λ o. not (isKnown o)) (pushed-other xs e (x .key) (ne-eqb (e .key) (x .key) (λ same. eqb-false (x .key) (e .key) f (sym same)))) ∙ p .0)
-        (pushed-apart xs e (sym (cond-false _ (Some x) (consentOf xs (e .key)) f) ∙ none) (p .1)))
-      (cases-bool (eqb (x .key) (e .key)))
+    (λ (t : eqb (x .key) (e .key) ≡ true).
+    let q : Some x ≡ None = sym (cond-true _ (Some x) (consentOf xs (e .key)) t) ∙ none in
+    let z : _≡_ {A = ℕ} 0 1 = cc in absurd (omega arith))
+    (λ (f : eqb (x .key) (e .key) ≡ false).
+    and-from (not (isKnown (consentOf (xs ++ e ∷ []) (x .key)))) (keysApart (xs ++ e ∷ []))
+    (ap (λ o. not (isKnown o)) (pushed-other xs e (x .key) (ne-eqb (e .key) (x .key) (λ same. eqb-false (x .key) (e .key) f (sym same)))) ∙ p .0)
+    (pushed-apart xs e (sym (cond-false _ (Some x) (consentOf xs (e .key)) f) ∙ none) (p .1)))
+    (cases-bool (eqb (x .key) (e .key)))
 
 -- what the register means after that
 module _ (es new : List Consent) (e : Consent) (is : Set es new e) where

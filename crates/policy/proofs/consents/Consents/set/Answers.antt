@@ -18,19 +18,29 @@ index-self-place c =
 
 pub ghost-self : need.ghost-self
 ghost-self c =
-    let s = c .args .self .now in
-    ( s .short
-    , ( length-set (s .list) (c .in-Some .place) (c .args .consent) ∙ s .full
-    , ( replaces-apart (s .list) (s .count) (omega arith) (c .args .consent) (c .in-Some .place) (c .in-Some .ensures tt) (s .apart)
-    , tt ) ) )
+    let s = c .args .self .now in (
+      s .short,
+      (
+        length-set (s .list) (c .in-Some .place) (c .args .consent) ∙ s .full,
+        (
+          replaces-apart (s .list) (s .count) (omega arith) (c .args .consent) (c .in-Some .place) (c .in-Some .ensures tt) (s .apart),
+          tt,
+        ),
+      ),
+    )
 
 pub ghost-self-2 : need.ghost-self-2
 ghost-self-2 c =
-    let s = c .args .self .now in
-    ( omega arith
-    , ( length-set (s .list) (s .count) (c .args .consent) ∙ s .full
-    , ( adds-apart (s .list) (s .count) (omega arith) (c .args .consent) (c .in-rest .ensures tt) (omega arith) (s .apart)
-    , tt ) ) )
+    let s = c .args .self .now in (
+      omega arith,
+      (
+        length-set (s .list) (s .count) (c .args .consent) ∙ s .full,
+        (
+          adds-apart (s .list) (s .count) (omega arith) (c .args .consent) (c .in-rest .ensures tt) (omega arith) (s .apart),
+          tt,
+        ),
+      ),
+    )
 
 pub returns-in-Some : need.returns-in-Some
 returns-in-Some c =
