@@ -2,9 +2,9 @@ ghost use mathlib.Core.Path.{_≡_};
 ghost use mathlib.Core.Bool.{true, false};
 ghost use mathlib.Core.List.{[]};
 ghost use lib.ListN.{getD};
-ghost use Rattle.std.specs.declared.option.Option.the-variants.{Some};
-ghost use Rattle.semantics.specs.Outcomes.{Steps, Kept};
-ghost use Rattle.semantics.specs.Policies.{consentOf, consentMark, keysApart, consented, consentedMean, Means};
+ghost use Rattle.std.specs.declared.option.Option.the-variants.{Some, None};
+ghost use Rattle.semantics.specs.Outcomes.{done, Steps, Kept};
+ghost use Rattle.semantics.specs.Policies.{consentOf, consentMark, keysApart, consented, consentedMean, SameMeaning, Means};
 ghost use Rattle.policy.specs.Consents.{entriesOf, consentsMeaning, placeFrom};
 use crate::consents::Consents;
 use crate::number::number_at;
@@ -84,6 +84,30 @@ impl Consents {
         Some(self.list[place])
     }
 
+    /// Puts an entry in the place of the one of its key.
+    fn replace(&mut self, place: usize, consent: Consent)
+        requires { ⌜ Some place ≡ placeFrom 0 (entriesOf (now self)) (consent .key) ⌝ }
+        ensures step { λ _. ⌜ consented (entriesOf (now (self .entry))) consent ≡ done (entriesOf (now (self .exit))) ⌝ }
+        ensures meaning { λ _. ⌜ SameMeaning (consentsMeaning (now (self .exit))) (consentedMean (entriesOf (now (self .entry))) consent) ⌝ }
+    {
+        self.list[place] = consent;
+    }
+
+    /// Adds an entry of a new key.
+    fn append(&mut self, consent: Consent) -> Result<(), Refusal>
+        requires { ⌜ None ≡ placeFrom 0 (entriesOf (now self)) (consent .key) ⌝ }
+        ensures step { λ r. ⌜ Steps r (consented (entriesOf (now (self .entry))) consent) (entriesOf (now (self .entry))) (entriesOf (now (self .exit))) ⌝ }
+        ensures meaning { λ r. ⌜ Means r (consentsMeaning (now (self .entry))) (consentedMean (entriesOf (now (self .entry))) consent) (consentsMeaning (now (self .exit))) ⌝ }
+        ensures kept { λ r. ⌜ Kept r (now (self .entry)) (now (self .exit)) ⌝ }
+    {
+        if self.count >= self.list.len() {
+            return Err(Refusal::RegisterFull);
+        }
+        self.list[self.count] = consent;
+        self.count += 1;
+        Ok(())
+    }
+
     /// Sets the entry of a key: a known key's is replaced, a new key's is added.
     pub fn set(&mut self, consent: Consent) -> Result<(), Refusal>
         ensures step { λ r. ⌜ Steps r (consented (entriesOf (now (self .entry))) consent) (entriesOf (now (self .entry))) (entriesOf (now (self .exit))) ⌝ }
@@ -91,15 +115,10 @@ impl Consents {
         ensures kept { λ r. ⌜ Kept r (now (self .entry)) (now (self .exit)) ⌝ }
     {
         if let Some(place) = self.place(consent.key) {
-            self.list[place] = consent;
+            self.replace(place, consent);
             return Ok(());
         }
-        if self.count >= self.list.len() {
-            return Err(Refusal::RegisterFull);
-        }
-        self.list[self.count] = consent;
-        self.count += 1;
-        Ok(())
+        self.append(consent)
     }
 }
 

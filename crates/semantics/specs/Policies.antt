@@ -22,7 +22,7 @@ use Rattle.semantics.specs.declared.rule.Consent.{Consent}
 use Rattle.semantics.specs.Drafts.{isTable}
 use Rattle.semantics.specs.Lists.{some}
 use Rattle.semantics.specs.Marks.{narrowerMark, widerMark}
-use Rattle.semantics.specs.Outcomes.{Outcome, done, question}
+use Rattle.semantics.specs.Outcomes.{Outcome, done, question, andThen}
 use Rattle.semantics.specs.Values.{Value, number, prefix}
 
 -- Broker, table, the values of the row, column.
@@ -53,40 +53,48 @@ holds (Holds c n) row = isNumber n (numberAt row c)
 abbrev pub applies : ℕ → ℕ → List Value → ℕ → Rule → Bool
 applies broker t row c rule = eqb (rule .broker) broker && (eqb (rule .table) t && (eqb (rule .column) c && holds (rule .test) row))
 
-abbrev pub allows : Sign → Bool
-allows Allow = true
-allows Prohibit = false
+-- Are the two signs one?
+abbrev pub sameSign : Sign → Sign → Bool
+sameSign Allow Allow = true
+sameSign Allow Prohibit = false
+sameSign Prohibit Allow = false
+sameSign Prohibit Prohibit = true
 
--- Does some allowing rule apply? Some prohibiting one?
-abbrev pub allowed : List Rule → ℕ → ℕ → List Value → ℕ → Bool
-allowed rules broker t row c = some (λ rule. allows (rule .sign) && applies broker t row c rule) rules
+-- Has the rule this sign, and does it apply?
+abbrev pub counts : Sign → ℕ → ℕ → List Value → ℕ → Rule → Bool
+counts sign broker t row c rule = sameSign (rule .sign) sign && applies broker t row c rule
 
-abbrev pub prohibited : List Rule → ℕ → ℕ → List Value → ℕ → Bool
-prohibited rules broker t row c = some (λ rule. not (allows (rule .sign)) && applies broker t row c rule) rules
+-- Does some rule of this sign apply?
+abbrev pub someRule : Sign → List Rule → ℕ → ℕ → List Value → ℕ → Bool
+someRule sign rules broker t row c = some (counts sign broker t row c) rules
 
 -- A cell is shown if some allowing rule applies and no prohibiting one does, else hidden.
 abbrev pub filtersMean : List Rule → Meaning
-filtersMean rules broker t row c = cond (allowed rules broker t row c && not (prohibited rules broker t row c)) Shown Hidden
+filtersMean rules broker t row c = cond (someRule Allow rules broker t row c && not (someRule Prohibit rules broker t row c)) Shown Hidden
 
 -- The column that a test names, 0 where it names none.
 abbrev pub testColumn : Test → ℕ
 testColumn Always = 0
 testColumn (Holds c n) = c
 
--- Adding a rule: its questions, and the rules after it.
-abbrev pub ruled : List Rule → Rule → Outcome (List Rule)
-ruled rules rule =
+-- The questions of a new rule.
+abbrev pub mayRule : List Rule → Rule → Outcome (Unit {0})
+mayRule rules rule =
     question (isTable (rule .table)) NoTable
     (question (ltb (rule .column) 8 && ltb (testColumn (rule .test)) 8) NoColumn
     (question (ltb (length rules) 16) TooManyRules
-    (done (rules ++ rule ∷ []))))
+    (done tt)))
+
+-- Adding a rule: the rules with the new one.
+abbrev pub ruled : List Rule → Rule → Outcome (List Rule)
+ruled rules rule = andThen (mayRule rules rule) (λ _. done (rules ++ rule ∷ []))
 
 -- What filters mean once a rule is added: where it applies, a prohibiting rule hides the cell, and an allowing one
 -- shows it unless a rule prohibits it. All else is as before.
 abbrev pub ruledMean : List Rule → Rule → Meaning
 ruledMean rules rule broker t row c =
     cond (applies broker t row c rule)
-    (cond (allows (rule .sign) && not (prohibited rules broker t row c)) Shown Hidden)
+    (cond (sameSign (rule .sign) Allow && not (someRule Prohibit rules broker t row c)) Shown Hidden)
     (filtersMean rules broker t row c)
 
 -- Consents. The entry of a key, if it has one.
