@@ -1,6 +1,5 @@
 ghost use mathlib.Core.Path.{_≡_};
 ghost use Rattle.semantics.specs.Policies.{bothMean, eitherMean};
-
 use crate::policy::Policy;
 use cells::Cell;
 use semantics::Mark;

@@ -2,7 +2,6 @@ ghost use mathlib.Core.Path.{_≡_};
 ghost use mathlib.Core.List.{map};
 ghost use Rattle.cells.specs.Cells.{cellValue};
 ghost use Rattle.semantics.specs.Policies.{Meaning};
-
 use cells::Cell;
 use semantics::Mark;
 

@@ -12,3 +12,4 @@ pub mod Held
 pub mod Domains
 pub mod Orderly
 pub mod Faithful
+pub mod Some
