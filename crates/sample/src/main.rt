@@ -2,6 +2,7 @@
 
 mod bad;
 mod show;
+mod views;
 
 use book::Book;
 use book::Draft;
@@ -48,11 +49,13 @@ fn run(rt: &LibcRuntime) -> Result<(), AnyError> {
     let mut book = draft.open(&mut memory);
     load(rt, &mut book)?;
     show::table(rt, "The book", &book)?;
+    views::tariffs(rt, &book)?;
     change(rt, &mut book)?;
     show::table(rt, "The book after that", &book)?;
     bad::declarations(rt)?;
     bad::calls(rt, &mut book)?;
-    show::table(rt, "The book is as it was", &book)
+    show::table(rt, "The book is as it was", &book)?;
+    views::offers(rt)
 }
 
 fn main(rt: LibcRuntime) -> Result<(), AnyError> {

@@ -6,6 +6,8 @@ use semantics::Refusal;
 use std::alloc::AllocError;
 use std::alloc::Global;
 use std::error::AnyError;
+use view::Masked;
+use view::View;
 
 /// A call and what it came to.
 pub(crate) fn step(rt: &LibcRuntime, call: &str, done: Result<(), Refusal>) -> Result<(), AnyError> {
@@ -35,6 +37,15 @@ fn text(heap: Global, cell: &Cell) -> Result<String, AllocError> {
     }
 }
 
+/// A cell of a view as text: a value, a variable ?table.row.column, or a pseudonym domain#index.
+fn masked_text(heap: Global, masked: &Masked) -> Result<String, AllocError> {
+    match masked {
+        Masked::Value(cell) => text(heap, cell),
+        Masked::Variable { table, row, column } => format!(heap, "?{table}.{row}.{column}"),
+        Masked::Pseudonym { domain, index } => format!(heap, "{domain}#{index}"),
+    }
+}
+
 /// A row as a line of the table.
 fn line(rt: &LibcRuntime, row: usize, cells: &[Cell]) -> Result<(), AnyError> {
     print!(rt, "  {row:>3}")?;
@@ -55,6 +66,29 @@ pub(crate) fn table(rt: &LibcRuntime, title: &str, book: &Book<'_>) -> Result<()
     for row in 0..count {
         if let Some(cells) = book.row(0, row) {
             line(rt, row, cells)?;
+        }
+    }
+    println!(rt, "")?;
+    Ok(())
+}
+
+/// A row of a view as a line of the table.
+fn masked_line(rt: &LibcRuntime, row: usize, cells: &[Masked]) -> Result<(), AnyError> {
+    print!(rt, "  {row:>3}")?;
+    for cell in cells {
+        let text = masked_text(rt.alloc(), cell)?;
+        print!(rt, "  {text:>8}")?;
+    }
+    println!(rt, "")?;
+    Ok(())
+}
+
+/// The rows of a table as they are seen.
+pub(crate) fn view(rt: &LibcRuntime, head: &str, view: &View, table: usize) -> Result<(), AnyError> {
+    println!(rt, "{head}")?;
+    for row in 0..view.row_count(table) {
+        if let Some(cells) = view.row(table, row) {
+            masked_line(rt, row, cells)?;
         }
     }
     println!(rt, "")?;
