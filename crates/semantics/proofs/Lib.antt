@@ -2,3 +2,4 @@ pub mod Every
 pub mod Lawful
 pub mod Agreed
 pub mod Same
+pub mod Drawing

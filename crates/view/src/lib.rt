@@ -1,0 +1,9 @@
+//! Views: what a broker sees of a book under a policy.
+
+mod masked;
+mod read;
+mod view;
+
+pub use masked::Masked;
+pub use masked::MaskedDebug;
+pub use view::View;
