@@ -1,6 +1,8 @@
 //! Views: what a broker sees of a book under a policy.
 
+mod find;
 mod masked;
+mod position;
 mod read;
 mod view;
 
