@@ -9,7 +9,8 @@ use lib.ListN.{length, getD}
 use Rattle.std.specs.declared.option.Option.the-variants.{Some, None}
 use Rattle.std.proofs.shelf.Lists.{getD-past, getD-map, getD-read, length-map}
 use Rattle.std.proofs.shelf.Tests.{and-from, and-left, and-right, cases-lt}
-use Rattle.semantics.specs.Books.{Model}
+use Rattle.std.proofs.shelf.Ways.{tells}
+use Rattle.semantics.specs.Books.{Model, columnsOf, rowsOf, columnAt}
 use Rattle.semantics.specs.Values.{Value, number, sameValue}
 use Rattle.semantics.specs.Views.{Place, placeOf, held}
 use Rattle.cells.specs.declared.cell.Cell.{Cell}
@@ -17,7 +18,7 @@ use Rattle.cells.specs.Cells.{cellValue}
 use Rattle.book.specs.Layout.{place}
 use Rattle.view.specs.declared.masked.Masked.{Masked}
 use Rattle.view.specs.declared.masked.Masked.the-variants.{Value as Shown, Variable, Pseudonym}
-use Rattle.view.specs.Drawing.{cellOf, isPseudonym, bears, indexIn, Found, InColumn}
+use Rattle.view.specs.Drawing.{cellOf, isPseudonym, bears, indexIn, rowsBefore, Found, InColumn, InTable, InDomain}
 
 -- a cell of a row, of a row that is too short, of a row that is not there
 module _ (rows : List (List Value)) (r c : ℕ) where
@@ -75,3 +76,62 @@ pub not-pseudonym : (x : Masked) → ((d n : ℕ) → x ≡ Pseudonym d n → �
 not-pseudonym (Shown y) f = refl
 not-pseudonym (Variable t r c) f = refl
 not-pseudonym (Pseudonym d n) f = absurd (f d n refl)
+
+-- the cells of a search that went through the columns before `c`, or the tables before `t`
+abbrev pub TableTo : Model → Place → ℕ → ℕ → ℕ → Place → Type 0
+TableTo m p domain t c q = InTable m p domain t q × (q .column < c)
+
+abbrev pub DomainTo : Model → Place → ℕ → ℕ → Place → Type 0
+DomainTo m p domain t q = InDomain m p domain q × (q .table < t)
+
+-- a search through the columns of a table, at column c
+module _ (cells : List Masked) (m : Model) (v : Value) (p : Place) (domain t c rows : ℕ) (is : rows ≡ rowsBefore m p t c) where
+  pub table-hit : (n : ℕ) → t ≤ p .table → c < length (columnsOf m t) → columnAt (columnsOf m t) c .domain ≡ domain → Found cells m v (InColumn t c rows) (Some n) → Found cells m v (InTable m p domain t) (Some n)
+  table-hit n low in′ e f =
+      found-new cells m v (InColumn t c rows) (InColumn t c rows) (InTable m p domain t) n
+      (λ q h. subst (InTable m p domain t) (same-place q t (q .row) c (h .0) refl (h .1)) ((low, in′, subst (λ k. q .row < k) is (h .2)), e, refl)) f
+
+  pub table-on : Found cells m v (TableTo m p domain t c) None → Found cells m v (InColumn t c rows) None → Found cells m v (TableTo m p domain t (c + 1)) None
+  table-on old new =
+      found-more cells m v (TableTo m p domain t c) (InColumn t c rows) (TableTo m p domain t (c + 1))
+      (λ q h. ⊎-elim
+        (λ (l : q .column < c). inl (h .0, l))
+        (λ (l : c ≤ q .column).
+          let e : q .column ≡ c = let a = h .1 in omega arith in
+          inr (h .0 .2, e, subst (λ k. q .row < k) (ap (λ x. rowsBefore m p x (q .column)) (h .0 .2) ∙ (ap (rowsBefore m p t) e ∙ sym is)) (h .0 .0 .2)))
+        (cases-lt (q .column) c))
+      old new
+
+-- at a column of another domain
+pub table-past : (cells : List Masked) (m : Model) (v : Value) (p : Place) (domain t c : ℕ) → (columnAt (columnsOf m t) c .domain ≡ domain → ⊥) → Found cells m v (TableTo m p domain t c) None → Found cells m v (TableTo m p domain t (c + 1)) None
+table-past cells m v p domain t c other old q h =
+    ⊎-elim
+      (λ (l : q .column < c). old q (h .0, l))
+      (λ (l : c ≤ q .column).
+        let e : q .column ≡ c = let a = h .1 in omega arith in
+        absurd (other (subst (λ x. columnAt (columnsOf m x) c .domain ≡ domain) (h .0 .2) (subst (λ x. columnAt (columnsOf m (q .table)) x .domain ≡ domain) e (h .0 .1)))))
+      (cases-lt (q .column) c)
+
+pub table-end : (cells : List Masked) (m : Model) (v : Value) (p : Place) (domain t c : ℕ) → length (columnsOf m t) ≤ c → Found cells m v (TableTo m p domain t c) None → Found cells m v (InTable m p domain t) None
+table-end cells m v p domain t c all old q h =
+    old q (h, (let a : q .column < length (columnsOf m t) = subst (λ x. q .column < length (columnsOf m x)) (h .2) (h .0 .1) in omega arith))
+
+-- a search through the tables, at table t
+module _ (cells : List Masked) (m : Model) (v : Value) (p : Place) (domain t : ℕ) where
+  pub domain-hit : (n : ℕ) → Found cells m v (InTable m p domain t) (Some n) → Found cells m v (InDomain m p domain) (Some n)
+  domain-hit n f = found-new cells m v (InTable m p domain t) (InTable m p domain t) (InDomain m p domain) n (λ q h. (h .0, h .1)) f
+
+  pub domain-on : Found cells m v (DomainTo m p domain t) None → Found cells m v (InTable m p domain t) None → Found cells m v (DomainTo m p domain (t + 1)) None
+  domain-on old new =
+      found-more cells m v (DomainTo m p domain t) (InTable m p domain t) (DomainTo m p domain (t + 1))
+      (λ q h. ⊎-elim
+        (λ (l : q .table < t). inl (h .0, l))
+        (λ (l : t ≤ q .table). inr (h .0 .0, h .0 .1, (let a = h .1 in omega arith)))
+        (cases-lt (q .table) t))
+      old new
+
+  pub domain-end : p .table < t → Found cells m v (DomainTo m p domain t) None → Found cells m v (InDomain m p domain) None
+  domain-end all old q h = old q (h, (let a = h .0 .0 in omega arith))
+
+pub rows-before-le : (m : Model) (p : Place) (t c : ℕ) → length (rowsOf m t) ≤ 256 → p .row < 256 → rowsBefore m p t c ≤ 256
+rows-before-le m p t c few low = grind (arith, tells)

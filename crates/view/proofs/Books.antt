@@ -1,0 +1,48 @@
+-- Limits of a book.
+use mathlib.Core.Path.{_≡_, refl, ap, _∙_}
+use mathlib.Core.Bool.{Bool, true, false, _&&_, _||_}
+use mathlib.Core.List.{List, []}
+use Prim.Native.Nat.{ℕ, _<_, _≤_}
+use native.Mathlib.Omega.{arith}
+use lib.Dec.{ltb, eqb}
+use lib.ListN.{length, getD}
+use Rattle.std.proofs.shelf.Ways.{tells}
+use Rattle.semantics.specs.declared.kind.Kind.{Kind}
+use Rattle.semantics.specs.declared.kind.Column.{Column}
+use Rattle.semantics.specs.Books.{columnsOf, rowsOf, columnAt}
+use Rattle.semantics.specs.Drafts.{admits, agree}
+use Rattle.semantics.specs.Lists.{every}
+use Rattle.semantics.proofs.Every.{every-getD}
+use Rattle.semantics.proofs.Lawful.{rows-within}
+use Rattle.book.specs.declared.book.Book.{Book}
+use Rattle.book.specs.Books.{bookModel, memory}
+use Rattle.book.specs.Columns.{columnsIn}
+use Rattle.book.specs.Layout.{cellAt}
+use Rattle.book.proofs.Listing as listing
+use Rattle.book.proofs.Memory.{row-known, row-at}
+use Rattle.book.proofs.Tabled.{length-tabled}
+
+module _ (b : Book) (t : ℕ) where
+  pub width-le : length (columnsOf (bookModel b) t) ≤ 8
+  width-le = listing.width-le (b .tables) t
+
+  pub count-le : length (rowsOf (bookModel b) t) ≤ 256
+  count-le = let w = rows-within (bookModel b) t (b .fitting) in omega arith
+
+  -- a row has as many cells as its table has columns
+  pub row-length : (r : ℕ) → r < length (rowsOf (bookModel b) t) → length (getD (rowsOf (bookModel b) t) r []) ≡ length (columnsOf (bookModel b) t)
+  row-length r h =
+      let S = columnsIn (b .tables) in
+      let k = row-known S (b .rows .counts) (memory b) t r (b .fitting) h in
+      ap length (row-at S (b .rows .counts) (memory b) t r (k .0) (k .1)) ∙ length-tabled _ (length (columnsOf (bookModel b) t))
+
+  pub domain-lt : (c : ℕ) → columnAt (columnsOf (bookModel b) t) c .domain < 16
+  domain-lt c =
+      let S = columnsIn (b .tables) in
+      let d = columnAt (columnsOf (bookModel b) t) c .domain in
+      let a : admits S (columnAt (columnsOf (bookModel b) t) c .kind) (columnAt (columnsOf (bookModel b) t) c .domain) ≡ true =
+        every-getD (λ column. admits S (column .kind) (column .domain)) (columnsOf (bookModel b) t) c _ refl (every-getD (every (λ column. admits S (column .kind) (column .domain))) S t [] refl (b .domains)) in
+      small S d _ a
+    where
+    small : (S : List (List Column)) (d : ℕ) (k : Kind) → admits S k d ≡ true → d < 16
+    small S d k a = grind (arith, tells)
