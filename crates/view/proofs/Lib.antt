@@ -1,3 +1,4 @@
 pub mod Memory
 pub mod Books
 pub mod Finding
+pub mod Order
