@@ -2,3 +2,4 @@ pub mod Memory
 pub mod Books
 pub mod Finding
 pub mod Order
+pub mod Drawing
