@@ -96,3 +96,99 @@ module _ (mark : Place → Mark) (m : Model) (t r c : ℕ) (cells : List Masked)
 
     pub index-known : (n : ℕ) → Indexed cells m v (InDomain m p d) (getD numbers d 0) n → indexOf (linkedValues mark m d) v ≡ n
     index-known n i = ⊎-elim (known n) (λ (f : Found cells m v (InDomain m p d) None × (n ≡ getD numbers d 0)). fresh (f .0) ∙ sym (f .1)) i
+
+-- the index matters at linked cells of a domain alone
+masked-same : (mark : Mark) (d : ℕ) (p : Place) (v : values.Value) (i j : ℕ) → (mark ≡ Linked → 1 ≤ d → j ≡ i) → masked mark d p v i ≡ masked mark d p v j
+masked-same Hidden d p v i j h = refl
+masked-same Linked zero p v i j h = refl
+masked-same Linked (suc d) p v i j h = ap (semantics.pseudonym (suc d)) (sym (h refl (omega arith)))
+masked-same Shown d p v i j h = refl
+
+-- how many cells of a column stand before a place, one cell on, one row on, one table on
+module _ (n : ℕ) (u k s t r c : ℕ) where
+  step-cell : u ≤ t → s < cond (ltb u t) n (cond (ltb k (c + 1)) (r + 1) r) → ((u ≡ t) × (s ≡ r) × (k ≡ c) → ⊥) → s < cond (ltb u t) n (cond (ltb k c) (r + 1) r)
+  step-cell low h ne = grind (arith, tells)
+
+  step-row : (w : ℕ) → u ≤ t → (u ≡ t → k < w) → s < cond (ltb u t) n (cond (ltb k 0) (r + 1 + 1) (r + 1)) → s < cond (ltb u t) n (cond (ltb k w) (r + 1) r)
+  step-row w low in′ h = grind (arith, tells)
+
+  step-table : u ≤ t + 1 → s < cond (ltb u (t + 1)) n (cond (ltb k 0) 1 0) → (u ≤ t) × (s < n)
+  step-table low h = grind (arith, tells)
+
+module _ (mark : Place → Mark) (m : Model) (cells : List Masked) (numbers : List ℕ) where
+  -- a cell more: `x` is how it is masked
+  module _ (t r c : ℕ) (drawn : Drawn mark m (placeOf t r c) cells numbers) (narrow : (t : ℕ) → length (columnsOf m t) ≤ 8) (few : (t : ℕ) → length (rowsOf m t) ≤ 256) (in-table : t < 4) (in-row : r < length (rowsOf m t)) (in-column : c < length (columnsOf m t)) where
+    pub drawn-number : (d : ℕ) → 1 ≤ d → d < 16 → getD numbers d 0 < 8192
+    drawn-number d a b =
+        let l = before-length m narrow few t r c in
+        let k = linked-le mark m d (placesBefore m (placeOf t r c)) in
+        let e = drawn .counted d a b in
+        let w = narrow t in
+        let n = few t in
+        omega arith
+
+    module _ (x : Masked) (masks : Masks cells m (mark (placeOf t r c)) (placeOf t r c) (getD numbers (domainOf m (placeOf t r c)) 0) x) (low : domainOf m (placeOf t r c) < 16) (size : length cells ≡ 8192) where
+      is-seen : maskedOf x ≡ seen mark m (placeOf t r c)
+      is-seen =
+          masks .is
+          ∙ masked-same (mark (placeOf t r c)) (domainOf m (placeOf t r c)) (placeOf t r c) (held m (placeOf t r c)) (masks .index) _
+            (λ link some. index-known mark m t r c cells numbers drawn some low in-table in-row in-column link (masks .index) (masks .indexed link some))
+
+      cell-at : (q : Place) → Before m (placeOf t r (c + 1)) q → maskedOf (cellOf (set cells (place t r c) x) q) ≡ seen mark m q
+      cell-at q b =
+          let w = narrow (q .table) in
+          let wt = narrow t in
+          let n = few t in
+          ⊎-elim
+            (λ (e : place (q .table) (q .row) (q .column) ≡ place t r c).
+              let et : q .table ≡ t = let a = b .1 in let o = b .0 in omega arith in
+              let er : q .row ≡ r = let a = b .1 in omega arith in
+              let ec : q .column ≡ c = let a = b .1 in omega arith in
+              subst (λ q. maskedOf (cellOf (set cells (place t r c) x) q) ≡ seen mark m q) (same-place q t r c et er ec)
+                (ap maskedOf (getD-set-same cells (place t r c) x _ (omega arith)) ∙ is-seen))
+            (λ (ne : place (q .table) (q .row) (q .column) ≢ place t r c).
+              ap maskedOf (getD-set-other cells (place t r c) (place (q .table) (q .row) (q .column)) x _ ne)
+              ∙ drawn .cellwise q (b .0, b .1, step-cell (length (rowsOf m (q .table))) (q .table) (q .column) (q .row) t r c (b .0) (b .2) (λ (a, f, g). ne (omega arith))))
+            (cases-eq (place (q .table) (q .row) (q .column)) (place t r c))
+
+      pub drawn-cell : (new : List ℕ) → Raised (mark (placeOf t r c)) (domainOf m (placeOf t r c)) numbers new → Drawn mark m (placeOf t r (c + 1)) (set cells (place t r c) x) new
+      drawn-cell new raised = record
+        { cellwise = cell-at
+        ; counted = λ d a b.
+            raised .1 d a b
+            ∙ (ap (λ n. n + cond (isMark (mark (placeOf t r c)) Linked && eqb (domainOf m (placeOf t r c)) d) 1 0) (drawn .counted d a b)
+            ∙ (sym (linked-more mark m d (placesBefore m (placeOf t r c)) (placeOf t r c))
+            ∙ ap (λ ps. length (linkedAmong mark m d ps)) (sym (before-cell m t r c))))
+        ; sixteen = raised .0 ∙ drawn .sixteen }
+
+  -- the end of a row, of a table
+  pub drawn-row : (t r : ℕ) → Drawn mark m (placeOf t r (length (columnsOf m t))) cells numbers → Drawn mark m (placeOf t (r + 1) 0) cells numbers
+  drawn-row t r drawn = record
+    { cellwise = λ q b. drawn .cellwise q (b .0, b .1, step-row (length (rowsOf m (q .table))) (q .table) (q .column) (q .row) t r 0 (length (columnsOf m t)) (b .0) (λ e. subst (λ u. q .column < length (columnsOf m u)) e (b .1)) (b .2))
+    ; counted = λ d a b. drawn .counted d a b ∙ ap (λ ps. length (linkedAmong mark m d ps)) (sym (before-row m t r))
+    ; sixteen = drawn .sixteen }
+
+  pub drawn-table : (t : ℕ) → Drawn mark m (placeOf t (length (rowsOf m t)) 0) cells numbers → Drawn mark m (placeOf (t + 1) 0 0) cells numbers
+  drawn-table t drawn = record
+    { cellwise = λ q b.
+        let s = step-table (length (rowsOf m (q .table))) (q .table) (q .column) (q .row) t 0 0 (b .0) (b .2) in
+        drawn .cellwise q (s .0, b .1, within (q .table) (q .row) (q .column) t (s .0) (s .1))
+    ; counted = λ d a b. drawn .counted d a b ∙ ap (λ ps. length (linkedAmong mark m d ps)) (sym (before-table m t))
+    ; sixteen = drawn .sixteen }
+    where
+    within : (u s k t : ℕ) → u ≤ t → s < length (rowsOf m u) → s < cond (ltb u t) (length (rowsOf m u)) (cond (ltb k 0) (length (rowsOf m t) + 1) (length (rowsOf m t)))
+    within u s k t low h =
+        ⊎-elim
+          (λ (e : u ≡ t). let l = ap (λ x. length (rowsOf m x)) e in grind (arith, tells))
+          (λ (ne : u ≡ t → ⊥). grind (arith, tells))
+          (cases-eq u t)
+
+  -- nothing is drawn yet
+  pub drawn-none : length numbers ≡ 16 → ((d : ℕ) → getD numbers d 0 ≡ 0) → Drawn mark m (placeOf 0 0 0) cells numbers
+  drawn-none size zeros = record
+    { cellwise = λ q b. absurd (nothing (length (rowsOf m (q .table))) (q .table) (q .column) (q .row) (b .2))
+    ; counted = λ d a b. zeros d ∙ (sym (linked-none mark m d) ∙ ap (λ ps. length (linkedAmong mark m d ps)) (sym (before-none m)))
+    ; sixteen = size }
+    where
+    nothing : (n u k s : ℕ) → s < cond (ltb u 0) n (cond (ltb k 0) 1 0) → ⊥
+    nothing n u k s h = grind (arith, tells)
