@@ -8,8 +8,8 @@ use native.Mathlib.Omega.{arith}
 use lib.Dec.{ltb, eqb}
 use lib.ListN.{length, getD, set}
 use Rattle.std.specs.declared.option.Option.the-variants.{Some, None}
-use Rattle.std.proofs.shelf.Lists.{getD-set-same, getD-set-other}
-use Rattle.std.proofs.shelf.Tests.{and-parts, and-from, cases-bool, cases-lt, cases-eq, eqb-true, eq-eqb, not-from-false, both-ways}
+use Rattle.std.proofs.shelf.Lists.{getD-set-same, getD-set-other, length-set}
+use Rattle.std.proofs.shelf.Tests.{and-parts, and-from, cases-bool, cases-lt, cases-eq, eqb-true, eq-eqb, ne-eqb}
 use Rattle.std.proofs.shelf.Ways.{tells}
 use Rattle.semantics.specs.declared.mark.Mark.{Mark}
 use Rattle.semantics.specs.declared.mark.Mark.the-variants.{Hidden, Linked, Shown}
@@ -192,3 +192,33 @@ module _ (mark : Place → Mark) (m : Model) (cells : List Masked) (numbers : Li
     where
     nothing : (n u k s : ℕ) → s < cond (ltb u 0) n (cond (ltb k 0) 1 0) → ⊥
     nothing n u k s h = grind (arith, tells)
+
+-- a linked cell of a domain: its pseudonym, and the number that is raised
+module _ (mark : Mark) (d : ℕ) (link : mark ≡ Linked) (some : 1 ≤ d) where
+  masked-linked : (p : Place) (v : values.Value) (i : ℕ) → semantics.pseudonym d i ≡ masked mark d p v i
+  masked-linked p v i = sym (ap (λ k. masked k d p v i) link ∙ at d some)
+    where
+    at : (d : ℕ) → 1 ≤ d → masked Linked d p v i ≡ semantics.pseudonym d i
+    at zero h = absurd (omega arith)
+    at (suc d) h = refl
+
+  pub masks-linked : (cells : List Masked) (m : Model) (p : Place) (numbers : List ℕ) (n : ℕ) (v : values.Value) → d ≡ domainOf m p → v ≡ held m p → Indexed cells m v (InDomain m p d) (getD numbers d 0) n → Masks cells m mark p (getD numbers (domainOf m p) 0) (Pseudonym d n)
+  masks-linked cells m p numbers n v e f i = record
+    { index = n
+    ; is = masked-linked p (held m p) n ∙ ap (λ x. masked mark x p (held m p) n) e
+    ; indexed = λ a b. subst (λ x. Indexed cells m (held m p) (InDomain m p x) (getD numbers x 0) n) e (subst (λ w. Indexed cells m w (InDomain m p d) (getD numbers d 0) n) f i) }
+
+  pub raised-linked : (x : ℕ) (old new : List ℕ) → d ≡ x → length old ≡ 16 → d < 16 → new ≡ set old d (getD old d 0 + 1) → Raised mark x old new
+  raised-linked x old new e size few is =
+      ( ap length is ∙ length-set old d (getD old d 0 + 1)
+      , λ k a b. ap (λ xs. getD xs k 0) is ∙ (at k ∙ ap (λ t. getD old k 0 + cond t 1 0) (sym (linked k))) )
+    where
+    linked : (k : ℕ) → (isMark mark Linked && eqb x k) ≡ eqb d k
+    linked k = ap (λ y. isMark y Linked && eqb x k) link ∙ ap (λ y. eqb y k) (sym e)
+
+    at : (k : ℕ) → getD (set old d (getD old d 0 + 1)) k 0 ≡ getD old k 0 + cond (eqb d k) 1 0
+    at k =
+        ⊎-elim
+          (λ (same : k ≡ d). subst (λ j. getD (set old d (getD old d 0 + 1)) j 0 ≡ getD old j 0 + cond (eqb d j) 1 0) (sym same) (getD-set-same old d (getD old d 0 + 1) 0 (omega arith) ∙ rw (eq-eqb d d refl)))
+          (λ (ne : k ≡ d → ⊥). getD-set-other old d k (getD old d 0 + 1) 0 ne ∙ (let t = ne-eqb d k (λ q. ne (sym q)) in rw t (omega arith)))
+          (cases-eq k d)

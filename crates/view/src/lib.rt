@@ -1,6 +1,7 @@
 //! Views: what a broker sees of a book under a policy.
 
 mod find;
+mod mask;
 mod masked;
 mod position;
 mod read;
