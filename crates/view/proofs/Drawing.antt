@@ -5,26 +5,31 @@ use mathlib.Core.List.{List, [], _∷_, _++_}
 use mathlib.Core.Logic.{_⊎_, _≢_, inl, inr, ⊎-elim}
 use Prim.Native.Nat.{ℕ, _+_, _*_, _<_, _≤_, zero, suc}
 use native.Mathlib.Omega.{arith}
-use lib.Dec.{ltb, eqb}
+use lib.Dec.{leb, ltb, eqb}
 use lib.ListN.{length, getD, set}
 use Rattle.std.specs.declared.option.Option.the-variants.{Some, None}
-use Rattle.std.proofs.shelf.Lists.{getD-set-same, getD-set-other, length-set}
-use Rattle.std.proofs.shelf.Tests.{and-parts, and-from, cases-bool, cases-lt, cases-eq, eqb-true, eq-eqb, ne-eqb}
+use Rattle.std.proofs.shelf.Lists.{getD-past, getD-set-same, getD-set-other, length-set}
+use Rattle.std.proofs.shelf.Tests.{and-parts, and-from, cases-bool, cases-lt, cases-eq, eqb-true, eq-eqb, ne-eqb, le-leb}
 use Rattle.std.proofs.shelf.Ways.{tells}
 use Rattle.semantics.specs.declared.mark.Mark.{Mark}
 use Rattle.semantics.specs.declared.mark.Mark.the-variants.{Hidden, Linked, Shown}
 use Rattle.semantics.specs.Books.{Model, columnsOf, rowsOf}
-use Rattle.semantics.specs.Lists.{every}
+use Rattle.semantics.specs.Lists.{every, tabled}
 use Rattle.semantics.specs.Marks.{isMark}
 use Rattle.semantics.specs.Values as values
 use Rattle.semantics.specs.Views as semantics
 use Rattle.semantics.specs.Views.{Place, placeOf, held, domainOf, linkedValues, indexOf, masked, seen}
-use Rattle.semantics.proofs.Drawing.{same-equal, index-new}
+use Rattle.semantics.proofs.Drawing.{same-equal, index-new, every-counting}
+use Rattle.cells.specs.declared.cell.Cell.the-variants.{Number}
+use Rattle.book.specs.declared.book.Book.{Book}
+use Rattle.book.specs.Books.{bookModel}
 use Rattle.book.specs.Layout.{place}
+use Rattle.book.proofs.Tabled.{getD-tabled, tabled-same}
 use Rattle.view.specs.declared.masked.Masked.{Masked}
 use Rattle.view.specs.declared.masked.Masked.the-variants.{Value, Variable, Pseudonym}
-use Rattle.view.specs.Views.{maskedOf, maskedAt}
-use Rattle.view.specs.Drawing.{cellOf, placesBefore, rowsBefore, Before, linkedAmong, isPseudonym, bears, indexIn, Found, InDomain, Indexed, Raised, Drawn, Masks}
+use Rattle.view.specs.Views.{maskedOf, maskedAt, rowIn, tableIn, tablesIn}
+use Rattle.view.specs.Drawing.{cellOf, placesBefore, rowsBefore, Before, linkedAmong, isPseudonym, bears, indexIn, Found, InDomain, Indexed, Raised, Drawn, AllDrawn, Masks}
+use Rattle.view.proofs.Books.{width-le, count-le, domain-lt, no-columns}
 use Rattle.view.proofs.Finding.{same-place}
 use Rattle.view.proofs.Order.{before-none, before-cell, before-row, before-table, before-split, before-length, every-before, linked-more, linked-none, linked-le, linked-split, linked-every}
 
@@ -222,3 +227,52 @@ module _ (mark : Mark) (d : ℕ) (link : mark ≡ Linked) (some : 1 ≤ d) where
           (λ (same : k ≡ d). subst (λ j. getD (set old d (getD old d 0 + 1)) j 0 ≡ getD old j 0 + cond (eqb d j) 1 0) (sym same) (getD-set-same old d (getD old d 0 + 1) 0 (omega arith) ∙ rw (eq-eqb d d refl)))
           (λ (ne : k ≡ d → ⊥). getD-set-other old d k (getD old d 0 + 1) 0 ne ∙ (let t = ne-eqb d k (λ q. ne (sym q)) in rw t (omega arith)))
           (cases-eq k d)
+
+-- the next cell of a book's row: `k` is its mark, `x` how it is masked
+module _ (b : Book) (mark : Place → Mark) (cells : List Masked) (numbers : List ℕ) (t r c : ℕ) (drawn : Drawn mark (bookModel b) (placeOf t r c) cells numbers) (in-table : t < 4) (in-row : r < length (rowsOf (bookModel b) t)) (in-column : c < length (columnsOf (bookModel b) t)) where
+  pub next-number : (d : ℕ) → 1 ≤ d → d < 16 → getD numbers d 0 < 8192
+  next-number = drawn-number mark (bookModel b) cells numbers t r c drawn (width-le b) (count-le b) in-table in-row in-column
+
+  pub next-cell : (k : Mark) (x : Masked) (out : List Masked) (new : List ℕ) → length cells ≡ 8192 → k ≡ mark (placeOf t r c) → Masks cells (bookModel b) k (placeOf t r c) (getD numbers (domainOf (bookModel b) (placeOf t r c)) 0) x → Raised k (domainOf (bookModel b) (placeOf t r c)) numbers new → out ≡ set cells (place t r c) x → Drawn mark (bookModel b) (placeOf t r (c + 1)) out new
+  next-cell k x out new size e masks raised is =
+      subst (λ out. Drawn mark (bookModel b) (placeOf t r (c + 1)) out new) (sym is)
+      (drawn-cell mark (bookModel b) cells numbers t r c drawn (width-le b) (count-le b) in-table in-row in-column x
+        (subst (λ k. Masks cells (bookModel b) k (placeOf t r c) (getD numbers (domainOf (bookModel b) (placeOf t r c)) 0) x) e masks)
+        (domain-lt b t c) size new
+        (subst (λ k. Raised k (domainOf (bookModel b) (placeOf t r c)) numbers new) e raised))
+
+-- all is drawn
+pub drawn-all : (mark : Place → Mark) (m : Model) (cells : List Masked) (numbers : List ℕ) → Drawn mark m (placeOf 4 0 0) cells numbers → AllDrawn mark m cells
+drawn-all mark m cells numbers drawn t r c a b d = drawn .cellwise (placeOf t r c) (omega arith, d, within (length (rowsOf m t)) t c r a b)
+  where
+  within : (n u k s : ℕ) → u < 4 → s < n → s < cond (ltb u 4) n (cond (ltb k 0) 1 0)
+  within n u k s low h = grind (arith, tells)
+
+pub view-is : (mark : Place → Mark) (m : Model) (cells : List Masked) (ws ns : List ℕ) → AllDrawn mark m cells → ws ≡ tabled (λ t. length (columnsOf m t)) 4 → ns ≡ tabled (λ t. length (rowsOf m t)) 4 → tablesIn cells ws ns ≡ semantics.drawn mark m
+view-is mark m cells ws ns all we ne =
+    tabled-same (λ t. tableIn cells t (getD ws t 0) (getD ns t 0)) (λ t. tabled (λ r. tabled (λ c. seen mark m (placeOf t r c)) (length (columnsOf m t))) (length (rowsOf m t))) 4 []
+    (λ t a.
+      ap (λ w. tableIn cells t w (getD ns t 0)) (ap (λ xs. getD xs t 0) we ∙ getD-tabled (λ t. length (columnsOf m t)) 4 t 0 a)
+      ∙ (ap (tableIn cells t (length (columnsOf m t))) (ap (λ xs. getD xs t 0) ne ∙ getD-tabled (λ t. length (rowsOf m t)) 4 t 0 a)
+      ∙ tabled-same (rowIn cells t (length (columnsOf m t))) (λ r. tabled (λ c. seen mark m (placeOf t r c)) (length (columnsOf m t))) (length (rowsOf m t)) []
+        (λ r b. tabled-same (λ c. maskedOf (maskedAt cells t r c)) (λ c. seen mark m (placeOf t r c)) (length (columnsOf m t)) (maskedOf (Value (Number 0))) (λ c d. all t r c a b d))))
+
+-- the numbers of rows and columns that a view takes over
+module _ (b : Book) where
+  pub widths-at : (ws : List ℕ) → ws ≡ tabled (λ t. length (columnsOf (bookModel b) t)) 4 → (t : ℕ) → getD ws t 0 ≡ length (columnsOf (bookModel b) t)
+  widths-at ws e t =
+      ap (λ xs. getD xs t 0) e
+      ∙ ⊎-elim
+          (λ (a : t < 4). getD-tabled (λ t. length (columnsOf (bookModel b) t)) 4 t 0 a)
+          (λ (a : 4 ≤ t). getD-past (tabled (λ t. length (columnsOf (bookModel b) t)) 4) t 0 a ∙ sym (ap length (no-columns b t a)))
+          (cases-lt t 4)
+
+  pub widths-kept : (ws : List ℕ) → ws ≡ tabled (λ t. length (columnsOf (bookModel b) t)) 4 → (length ws ≡ 4) × (every (λ n. leb n 8) ws ≡ true)
+  widths-kept ws e =
+      ( ap length e
+      , ap (every (λ n. leb n 8)) e ∙ every-counting (λ t. length (columnsOf (bookModel b) t)) (λ n. leb n 8) 0 4 (λ k x y. le-leb _ 8 (width-le b k)) )
+
+  pub counts-kept : (ns : List ℕ) → ns ≡ tabled (λ t. length (rowsOf (bookModel b) t)) 4 → (length ns ≡ 4) × (every (λ n. leb n 256) ns ≡ true)
+  counts-kept ns e =
+      ( ap length e
+      , ap (every (λ n. leb n 256)) e ∙ every-counting (λ t. length (rowsOf (bookModel b) t)) (λ n. leb n 256) 0 4 (λ k x y. le-leb _ 256 (count-le b k)) )

@@ -105,6 +105,11 @@ pub record Drawn (mark : Place → Mark) (m : Model) (p : Place) (cells : List M
   pub counted : (d : ℕ) → 1 ≤ d → d < 16 → getD numbers d 0 ≡ length (linkedAmong mark m d (placesBefore m p))
   pub sixteen : length numbers ≡ 16
 
+-- The whole view is drawn.
+abbrev pub AllDrawn : (Place → Mark) → Model → List Masked → Type 0
+AllDrawn mark m cells =
+    (t r c : ℕ) → t < 4 → r < length (rowsOf m t) → c < length (columnsOf m t) → maskedOf (maskedAt cells t r c) ≡ seen mark m (placeOf t r c)
+
 -- How a cell is masked: by its mark and domain, as a pseudonym with an index.
 pub record Masks (cells : List Masked) (m : Model) (mark : Mark) (p : Place) (next : ℕ) (x : Masked) : Type 0 where
   pub index : ℕ

@@ -1,5 +1,6 @@
 //! Views: what a broker sees of a book under a policy.
 
+mod draw;
 mod find;
 mod mask;
 mod masked;
