@@ -50,8 +50,8 @@ module _ (b : Book) (t : ℕ) where
       let S = columnsIn (b .tables) in
       let d = columnAt (columnsOf (bookModel b) t) c .domain in
       let a : admits S (columnAt (columnsOf (bookModel b) t) c .kind) (columnAt (columnsOf (bookModel b) t) c .domain) ≡ true =
-        every-getD (λ column. admits S (column .kind) (column .domain)) (columnsOf (bookModel b) t) c _ refl (every-getD (every (λ column. admits S (column .kind) (column .domain))) S t [] refl (b .domains)) in
+      every-getD (λ column. admits S (column .kind) (column .domain)) (columnsOf (bookModel b) t) c _ refl (every-getD (every (λ column. admits S (column .kind) (column .domain))) S t [] refl (b .domains)) in
       small S d _ a
     where
-    small : (S : List (List Column)) (d : ℕ) (k : Kind) → admits S k d ≡ true → d < 16
-    small S d k a = grind (arith, tells)
+      small : (S : List (List Column)) (d : ℕ) (k : Kind) → admits S k d ≡ true → d < 16
+      small S d k a = grind (arith, tells)

@@ -74,19 +74,19 @@ module _ (mark : Place → Mark) (m : Model) (t r c : ℕ) (cells : List Masked)
     other : (q : Place) → Found cells m v (InDomain m p d) None → Before m p q → (not (isMark (mark q) Linked && eqb (domainOf m q) d) || not (values.sameValue (held m q) v)) ≡ true
     other q none b =
         ⊎-elim
-          (λ (e : (isMark (mark q) Linked && eqb (domainOf m q) d) ≡ true).
-            let h = and-parts (isMark (mark q) Linked) (eqb (domainOf m q) d) e in
-            let f = eqb-true (domainOf m q) d (h .1) in
-            let ps = linked-pseudonym (cellOf cells q) (mark q) (domainOf m q) q (held m q) (indexOf (linkedValues mark m (domainOf m q)) (held m q)) (drawn .cellwise q b) (h .0) (subst (λ x. 1 ≤ x) (sym f) some) in
-            last (isMark (mark q) Linked && eqb (domainOf m q) d) (isPseudonym (cellOf cells q)) (values.sameValue (held m q) v) ps (none q (b, f)))
-          (λ (e : (isMark (mark q) Linked && eqb (domainOf m q) d) ≡ false). first (isMark (mark q) Linked && eqb (domainOf m q) d) (values.sameValue (held m q) v) e)
-          (cases-bool (isMark (mark q) Linked && eqb (domainOf m q) d))
+        (λ (e : (isMark (mark q) Linked && eqb (domainOf m q) d) ≡ true).
+        let h = and-parts (isMark (mark q) Linked) (eqb (domainOf m q) d) e in
+        let f = eqb-true (domainOf m q) d (h .1) in
+        let ps = linked-pseudonym (cellOf cells q) (mark q) (domainOf m q) q (held m q) (indexOf (linkedValues mark m (domainOf m q)) (held m q)) (drawn .cellwise q b) (h .0) (subst (λ x. 1 ≤ x) (sym f) some) in
+        last (isMark (mark q) Linked && eqb (domainOf m q) d) (isPseudonym (cellOf cells q)) (values.sameValue (held m q) v) ps (none q (b, f)))
+        (λ (e : (isMark (mark q) Linked && eqb (domainOf m q) d) ≡ false). first (isMark (mark q) Linked && eqb (domainOf m q) d) (values.sameValue (held m q) v) e)
+        (cases-bool (isMark (mark q) Linked && eqb (domainOf m q) d))
       where
-      last : (x y z : Bool) → y ≡ true → (y && z) ≡ false → (not x || not z) ≡ true
-      last x y z a b = grind (arith, tells)
+        last : (x y z : Bool) → y ≡ true → (y && z) ≡ false → (not x || not z) ≡ true
+        last x y z a b = grind (arith, tells)
 
-      first : (x z : Bool) → x ≡ false → (not x || not z) ≡ true
-      first x z a = grind (arith, tells)
+        first : (x z : Bool) → x ≡ false → (not x || not z) ≡ true
+        first x z a = grind (arith, tells)
 
     fresh : Found cells m v (InDomain m p d) None → indexOf (linkedValues mark m d) v ≡ getD numbers d 0
     fresh none =
@@ -95,8 +95,8 @@ module _ (mark : Place → Mark) (m : Model) (t r c : ℕ) (cells : List Masked)
         let after = linked-split mark m d (placesBefore m p) p (split .0) (split .1) here in
         ap (λ vs. indexOf vs v) (after .1)
         ∙ (index-new (linkedAmong mark m d (placesBefore m p)) v (after .0)
-            (linked-every mark m d (λ x. not (values.sameValue x v)) (placesBefore m p)
-              (every-before m (λ q. not (isMark (mark q) Linked && eqb (domainOf m q) d) || not (values.sameValue (held m q) v)) t r c (omega arith) (λ q b. other q none b)))
+        (linked-every mark m d (λ x. not (values.sameValue x v)) (placesBefore m p)
+        (every-before m (λ q. not (isMark (mark q) Linked && eqb (domainOf m q) d) || not (values.sameValue (held m q) v)) t r c (omega arith) (λ q b. other q none b)))
         ∙ sym (drawn .counted d some few))
 
     pub index-known : (n : ℕ) → Indexed cells m v (InDomain m p d) (getD numbers d 0) n → indexOf (linkedValues mark m d) v ≡ n
@@ -137,7 +137,7 @@ module _ (mark : Place → Mark) (m : Model) (cells : List Masked) (numbers : Li
       is-seen =
           masks .is
           ∙ masked-same (mark (placeOf t r c)) (domainOf m (placeOf t r c)) (placeOf t r c) (held m (placeOf t r c)) (masks .index) _
-            (λ link some. index-known mark m t r c cells numbers drawn some low in-table in-row in-column link (masks .index) (masks .indexed link some))
+          (λ link some. index-known mark m t r c cells numbers drawn some low in-table in-row in-column link (masks .index) (masks .indexed link some))
 
       cell-at : (q : Place) → Before m (placeOf t r (c + 1)) q → maskedOf (cellOf (set cells (place t r c) x) q) ≡ seen mark m q
       cell-at q b =
@@ -145,85 +145,91 @@ module _ (mark : Place → Mark) (m : Model) (cells : List Masked) (numbers : Li
           let wt = narrow t in
           let n = few t in
           ⊎-elim
-            (λ (e : place (q .table) (q .row) (q .column) ≡ place t r c).
-              let et : q .table ≡ t = let a = b .1 in let o = b .0 in omega arith in
-              let er : q .row ≡ r = let a = b .1 in omega arith in
-              let ec : q .column ≡ c = let a = b .1 in omega arith in
-              subst (λ q. maskedOf (cellOf (set cells (place t r c) x) q) ≡ seen mark m q) (same-place q t r c et er ec)
-                (ap maskedOf (getD-set-same cells (place t r c) x _ (omega arith)) ∙ is-seen))
-            (λ (ne : place (q .table) (q .row) (q .column) ≢ place t r c).
-              ap maskedOf (getD-set-other cells (place t r c) (place (q .table) (q .row) (q .column)) x _ ne)
-              ∙ drawn .cellwise q (b .0, b .1, step-cell (length (rowsOf m (q .table))) (q .table) (q .column) (q .row) t r c (b .0) (b .2) (λ (a, f, g). ne (omega arith))))
-            (cases-eq (place (q .table) (q .row) (q .column)) (place t r c))
+          (λ (e : place (q .table) (q .row) (q .column) ≡ place t r c).
+          let et : q .table ≡ t = let a = b .1 in let o = b .0 in omega arith in
+          let er : q .row ≡ r = let a = b .1 in omega arith in
+          let ec : q .column ≡ c = let a = b .1 in omega arith in
+          subst (λ q. maskedOf (cellOf (set cells (place t r c) x) q) ≡ seen mark m q) (same-place q t r c et er ec)
+          (ap maskedOf (getD-set-same cells (place t r c) x _ (omega arith)) ∙ is-seen))
+          (λ (ne : place (q .table) (q .row) (q .column) ≢ place t r c).
+          ap maskedOf (getD-set-other cells (place t r c) (place (q .table) (q .row) (q .column)) x _ ne)
+          ∙ drawn .cellwise q (b .0, b .1, step-cell (length (rowsOf m (q .table))) (q .table) (q .column) (q .row) t r c (b .0) (b .2) (λ (a, f, g). ne (omega arith))))
+          (cases-eq (place (q .table) (q .row) (q .column)) (place t r c))
 
       pub drawn-cell : (new : List ℕ) → Raised (mark (placeOf t r c)) (domainOf m (placeOf t r c)) numbers new → Drawn mark m (placeOf t r (c + 1)) (set cells (place t r c) x) new
-      drawn-cell new raised = record
-        { cellwise = cell-at
-        ; counted = λ d a b.
+      drawn-cell new raised = record {
+        cellwise = cell-at;
+        counted = λ d a b.
             raised .1 d a b
             ∙ (ap (λ n. n + cond (isMark (mark (placeOf t r c)) Linked && eqb (domainOf m (placeOf t r c)) d) 1 0) (drawn .counted d a b)
             ∙ (sym (linked-more mark m d (placesBefore m (placeOf t r c)) (placeOf t r c))
-            ∙ ap (λ ps. length (linkedAmong mark m d ps)) (sym (before-cell m t r c))))
-        ; sixteen = raised .0 ∙ drawn .sixteen }
+            ∙ ap (λ ps. length (linkedAmong mark m d ps)) (sym (before-cell m t r c))));
+        sixteen = raised .0 ∙ drawn .sixteen;
+      }
 
   -- the end of a row, of a table
   pub drawn-row : (t r : ℕ) → Drawn mark m (placeOf t r (length (columnsOf m t))) cells numbers → Drawn mark m (placeOf t (r + 1) 0) cells numbers
-  drawn-row t r drawn = record
-    { cellwise = λ q b. drawn .cellwise q (b .0, b .1, step-row (length (rowsOf m (q .table))) (q .table) (q .column) (q .row) t r 0 (length (columnsOf m t)) (b .0) (λ e. subst (λ u. q .column < length (columnsOf m u)) e (b .1)) (b .2))
-    ; counted = λ d a b. drawn .counted d a b ∙ ap (λ ps. length (linkedAmong mark m d ps)) (sym (before-row m t r))
-    ; sixteen = drawn .sixteen }
+  drawn-row t r drawn = record {
+    cellwise = λ q b. drawn .cellwise q (b .0, b .1, step-row (length (rowsOf m (q .table))) (q .table) (q .column) (q .row) t r 0 (length (columnsOf m t)) (b .0) (λ e. subst (λ u. q .column < length (columnsOf m u)) e (b .1)) (b .2));
+    counted = λ d a b. drawn .counted d a b ∙ ap (λ ps. length (linkedAmong mark m d ps)) (sym (before-row m t r));
+    sixteen = drawn .sixteen;
+  }
 
   pub drawn-table : (t : ℕ) → Drawn mark m (placeOf t (length (rowsOf m t)) 0) cells numbers → Drawn mark m (placeOf (t + 1) 0 0) cells numbers
-  drawn-table t drawn = record
-    { cellwise = λ q b.
+  drawn-table t drawn = record {
+    cellwise = λ q b.
         let s = step-table (length (rowsOf m (q .table))) (q .table) (q .column) (q .row) t 0 0 (b .0) (b .2) in
-        drawn .cellwise q (s .0, b .1, within (q .table) (q .row) (q .column) t (s .0) (s .1))
-    ; counted = λ d a b. drawn .counted d a b ∙ ap (λ ps. length (linkedAmong mark m d ps)) (sym (before-table m t))
-    ; sixteen = drawn .sixteen }
+        drawn .cellwise q (s .0, b .1, within (q .table) (q .row) (q .column) t (s .0) (s .1));
+    counted = λ d a b. drawn .counted d a b ∙ ap (λ ps. length (linkedAmong mark m d ps)) (sym (before-table m t));
+    sixteen = drawn .sixteen;
+  }
     where
-    within : (u s k t : ℕ) → u ≤ t → s < length (rowsOf m u) → s < cond (ltb u t) (length (rowsOf m u)) (cond (ltb k 0) (length (rowsOf m t) + 1) (length (rowsOf m t)))
-    within u s k t low h =
-        ⊎-elim
+      within : (u s k t : ℕ) → u ≤ t → s < length (rowsOf m u) → s < cond (ltb u t) (length (rowsOf m u)) (cond (ltb k 0) (length (rowsOf m t) + 1) (length (rowsOf m t)))
+      within u s k t low h =
+          ⊎-elim
           (λ (e : u ≡ t). let l = ap (λ x. length (rowsOf m x)) e in grind (arith, tells))
           (λ (ne : u ≡ t → ⊥). grind (arith, tells))
           (cases-eq u t)
 
   -- nothing is drawn yet
   pub drawn-none : length numbers ≡ 16 → ((d : ℕ) → getD numbers d 0 ≡ 0) → Drawn mark m (placeOf 0 0 0) cells numbers
-  drawn-none size zeros = record
-    { cellwise = λ q b. absurd (nothing (length (rowsOf m (q .table))) (q .table) (q .column) (q .row) (b .2))
-    ; counted = λ d a b. zeros d ∙ (sym (linked-none mark m d) ∙ ap (λ ps. length (linkedAmong mark m d ps)) (sym (before-none m)))
-    ; sixteen = size }
+  drawn-none size zeros = record {
+    cellwise = λ q b. absurd (nothing (length (rowsOf m (q .table))) (q .table) (q .column) (q .row) (b .2));
+    counted = λ d a b. zeros d ∙ (sym (linked-none mark m d) ∙ ap (λ ps. length (linkedAmong mark m d ps)) (sym (before-none m)));
+    sixteen = size;
+  }
     where
-    nothing : (n u k s : ℕ) → s < cond (ltb u 0) n (cond (ltb k 0) 1 0) → ⊥
-    nothing n u k s h = grind (arith, tells)
+      nothing : (n u k s : ℕ) → s < cond (ltb u 0) n (cond (ltb k 0) 1 0) → ⊥
+      nothing n u k s h = grind (arith, tells)
 
 -- a linked cell of a domain: its pseudonym, and the number that is raised
 module _ (mark : Mark) (d : ℕ) (link : mark ≡ Linked) (some : 1 ≤ d) where
   masked-linked : (p : Place) (v : values.Value) (i : ℕ) → semantics.pseudonym d i ≡ masked mark d p v i
   masked-linked p v i = sym (ap (λ k. masked k d p v i) link ∙ at d some)
     where
-    at : (d : ℕ) → 1 ≤ d → masked Linked d p v i ≡ semantics.pseudonym d i
-    at zero h = absurd (omega arith)
-    at (suc d) h = refl
+      at : (d : ℕ) → 1 ≤ d → masked Linked d p v i ≡ semantics.pseudonym d i
+      at zero h = absurd (omega arith)
+      at (suc d) h = refl
 
   pub masks-linked : (cells : List Masked) (m : Model) (p : Place) (numbers : List ℕ) (n : ℕ) (v : values.Value) → d ≡ domainOf m p → v ≡ held m p → Indexed cells m v (InDomain m p d) (getD numbers d 0) n → Masks cells m mark p (getD numbers (domainOf m p) 0) (Pseudonym d n)
-  masks-linked cells m p numbers n v e f i = record
-    { index = n
-    ; is = masked-linked p (held m p) n ∙ ap (λ x. masked mark x p (held m p) n) e
-    ; indexed = λ a b. subst (λ x. Indexed cells m (held m p) (InDomain m p x) (getD numbers x 0) n) e (subst (λ w. Indexed cells m w (InDomain m p d) (getD numbers d 0) n) f i) }
+  masks-linked cells m p numbers n v e f i = record {
+    index = n;
+    is = masked-linked p (held m p) n ∙ ap (λ x. masked mark x p (held m p) n) e;
+    indexed = λ a b. subst (λ x. Indexed cells m (held m p) (InDomain m p x) (getD numbers x 0) n) e (subst (λ w. Indexed cells m w (InDomain m p d) (getD numbers d 0) n) f i);
+  }
 
   pub raised-linked : (x : ℕ) (old new : List ℕ) → d ≡ x → length old ≡ 16 → d < 16 → new ≡ set old d (getD old d 0 + 1) → Raised mark x old new
-  raised-linked x old new e size few is =
-      ( ap length is ∙ length-set old d (getD old d 0 + 1)
-      , λ k a b. ap (λ xs. getD xs k 0) is ∙ (at k ∙ ap (λ t. getD old k 0 + cond t 1 0) (sym (linked k))) )
+  raised-linked x old new e size few is = (
+    ap length is ∙ length-set old d (getD old d 0 + 1),
+    λ k a b. ap (λ xs. getD xs k 0) is ∙ (at k ∙ ap (λ t. getD old k 0 + cond t 1 0) (sym (linked k))),
+  )
     where
-    linked : (k : ℕ) → (isMark mark Linked && eqb x k) ≡ eqb d k
-    linked k = ap (λ y. isMark y Linked && eqb x k) link ∙ ap (λ y. eqb y k) (sym e)
+      linked : (k : ℕ) → (isMark mark Linked && eqb x k) ≡ eqb d k
+      linked k = ap (λ y. isMark y Linked && eqb x k) link ∙ ap (λ y. eqb y k) (sym e)
 
-    at : (k : ℕ) → getD (set old d (getD old d 0 + 1)) k 0 ≡ getD old k 0 + cond (eqb d k) 1 0
-    at k =
-        ⊎-elim
+      at : (k : ℕ) → getD (set old d (getD old d 0 + 1)) k 0 ≡ getD old k 0 + cond (eqb d k) 1 0
+      at k =
+          ⊎-elim
           (λ (same : k ≡ d). subst (λ j. getD (set old d (getD old d 0 + 1)) j 0 ≡ getD old j 0 + cond (eqb d j) 1 0) (sym same) (getD-set-same old d (getD old d 0 + 1) 0 (omega arith) ∙ rw (eq-eqb d d refl)))
           (λ (ne : k ≡ d → ⊥). getD-set-other old d k (getD old d 0 + 1) 0 ne ∙ (let t = ne-eqb d k (λ q. ne (sym q)) in rw t (omega arith)))
           (cases-eq k d)
@@ -237,25 +243,25 @@ module _ (b : Book) (mark : Place → Mark) (cells : List Masked) (numbers : Lis
   next-cell k x out new size e masks raised is =
       subst (λ out. Drawn mark (bookModel b) (placeOf t r (c + 1)) out new) (sym is)
       (drawn-cell mark (bookModel b) cells numbers t r c drawn (width-le b) (count-le b) in-table in-row in-column x
-        (subst (λ k. Masks cells (bookModel b) k (placeOf t r c) (getD numbers (domainOf (bookModel b) (placeOf t r c)) 0) x) e masks)
-        (domain-lt b t c) size new
-        (subst (λ k. Raised k (domainOf (bookModel b) (placeOf t r c)) numbers new) e raised))
+      (subst (λ k. Masks cells (bookModel b) k (placeOf t r c) (getD numbers (domainOf (bookModel b) (placeOf t r c)) 0) x) e masks)
+      (domain-lt b t c) size new
+      (subst (λ k. Raised k (domainOf (bookModel b) (placeOf t r c)) numbers new) e raised))
 
 -- all is drawn
 pub drawn-all : (mark : Place → Mark) (m : Model) (cells : List Masked) (numbers : List ℕ) → Drawn mark m (placeOf 4 0 0) cells numbers → AllDrawn mark m cells
 drawn-all mark m cells numbers drawn t r c a b d = drawn .cellwise (placeOf t r c) (omega arith, d, within (length (rowsOf m t)) t c r a b)
   where
-  within : (n u k s : ℕ) → u < 4 → s < n → s < cond (ltb u 4) n (cond (ltb k 0) 1 0)
-  within n u k s low h = grind (arith, tells)
+    within : (n u k s : ℕ) → u < 4 → s < n → s < cond (ltb u 4) n (cond (ltb k 0) 1 0)
+    within n u k s low h = grind (arith, tells)
 
 pub view-is : (mark : Place → Mark) (m : Model) (cells : List Masked) (ws ns : List ℕ) → AllDrawn mark m cells → ws ≡ tabled (λ t. length (columnsOf m t)) 4 → ns ≡ tabled (λ t. length (rowsOf m t)) 4 → tablesIn cells ws ns ≡ semantics.drawn mark m
 view-is mark m cells ws ns all we ne =
     tabled-same (λ t. tableIn cells t (getD ws t 0) (getD ns t 0)) (λ t. tabled (λ r. tabled (λ c. seen mark m (placeOf t r c)) (length (columnsOf m t))) (length (rowsOf m t))) 4 []
     (λ t a.
-      ap (λ w. tableIn cells t w (getD ns t 0)) (ap (λ xs. getD xs t 0) we ∙ getD-tabled (λ t. length (columnsOf m t)) 4 t 0 a)
-      ∙ (ap (tableIn cells t (length (columnsOf m t))) (ap (λ xs. getD xs t 0) ne ∙ getD-tabled (λ t. length (rowsOf m t)) 4 t 0 a)
-      ∙ tabled-same (rowIn cells t (length (columnsOf m t))) (λ r. tabled (λ c. seen mark m (placeOf t r c)) (length (columnsOf m t))) (length (rowsOf m t)) []
-        (λ r b. tabled-same (λ c. maskedOf (maskedAt cells t r c)) (λ c. seen mark m (placeOf t r c)) (length (columnsOf m t)) (maskedOf (Value (Number 0))) (λ c d. all t r c a b d))))
+    ap (λ w. tableIn cells t w (getD ns t 0)) (ap (λ xs. getD xs t 0) we ∙ getD-tabled (λ t. length (columnsOf m t)) 4 t 0 a)
+    ∙ (ap (tableIn cells t (length (columnsOf m t))) (ap (λ xs. getD xs t 0) ne ∙ getD-tabled (λ t. length (rowsOf m t)) 4 t 0 a)
+    ∙ tabled-same (rowIn cells t (length (columnsOf m t))) (λ r. tabled (λ c. seen mark m (placeOf t r c)) (length (columnsOf m t))) (length (rowsOf m t)) []
+    (λ r b. tabled-same (λ c. maskedOf (maskedAt cells t r c)) (λ c. seen mark m (placeOf t r c)) (length (columnsOf m t)) (maskedOf (Value (Number 0))) (λ c d. all t r c a b d))))
 
 -- the numbers of rows and columns that a view takes over
 module _ (b : Book) where
@@ -263,16 +269,18 @@ module _ (b : Book) where
   widths-at ws e t =
       ap (λ xs. getD xs t 0) e
       ∙ ⊎-elim
-          (λ (a : t < 4). getD-tabled (λ t. length (columnsOf (bookModel b) t)) 4 t 0 a)
-          (λ (a : 4 ≤ t). getD-past (tabled (λ t. length (columnsOf (bookModel b) t)) 4) t 0 a ∙ sym (ap length (no-columns b t a)))
-          (cases-lt t 4)
+      (λ (a : t < 4). getD-tabled (λ t. length (columnsOf (bookModel b) t)) 4 t 0 a)
+      (λ (a : 4 ≤ t). getD-past (tabled (λ t. length (columnsOf (bookModel b) t)) 4) t 0 a ∙ sym (ap length (no-columns b t a)))
+      (cases-lt t 4)
 
   pub widths-kept : (ws : List ℕ) → ws ≡ tabled (λ t. length (columnsOf (bookModel b) t)) 4 → (length ws ≡ 4) × (every (λ n. leb n 8) ws ≡ true)
-  widths-kept ws e =
-      ( ap length e
-      , ap (every (λ n. leb n 8)) e ∙ every-counting (λ t. length (columnsOf (bookModel b) t)) (λ n. leb n 8) 0 4 (λ k x y. le-leb _ 8 (width-le b k)) )
+  widths-kept ws e = (
+    ap length e,
+    ap (every (λ n. leb n 8)) e ∙ every-counting (λ t. length (columnsOf (bookModel b) t)) (λ n. leb n 8) 0 4 (λ k x y. le-leb _ 8 (width-le b k)),
+  )
 
   pub counts-kept : (ns : List ℕ) → ns ≡ tabled (λ t. length (rowsOf (bookModel b) t)) 4 → (length ns ≡ 4) × (every (λ n. leb n 256) ns ≡ true)
-  counts-kept ns e =
-      ( ap length e
-      , ap (every (λ n. leb n 256)) e ∙ every-counting (λ t. length (rowsOf (bookModel b) t)) (λ n. leb n 256) 0 4 (λ k x y. le-leb _ 256 (count-le b k)) )
+  counts-kept ns e = (
+    ap length e,
+    ap (every (λ n. leb n 256)) e ∙ every-counting (λ t. length (rowsOf (bookModel b) t)) (λ n. leb n 256) 0 4 (λ k x y. le-leb _ 256 (count-le b k)),
+  )

@@ -52,18 +52,19 @@ same-place q t r c a b d =
 module _ (cells : List Masked) (m : Model) (v : Value) (t c r : ℕ) (x : Masked) (is : x ≡ cellOf cells (placeOf t r c)) where
   pub column-hit : (rows : ℕ) (d n : ℕ) (w : Value) → x ≡ Pseudonym d n → w ≡ held m (placeOf t r c) → true ≡ sameValue w v → r < rows → Found cells m v (InColumn t c rows) (Some n)
   column-hit rows d n w e f s h =
-      let y : cellOf cells (placeOf t r c) ≡ Pseudonym d n = sym is ∙ e in
-      ( placeOf t r c
-      , (refl, refl, h)
-      , and-from _ _ (ap isPseudonym y) (ap (λ w. sameValue w v) (sym f) ∙ sym s)
-      , ap indexIn y )
+      let y : cellOf cells (placeOf t r c) ≡ Pseudonym d n = sym is ∙ e in (
+        placeOf t r c,
+        (refl, refl, h),
+        and-from _ _ (ap isPseudonym y) (ap (λ w. sameValue w v) (sym f) ∙ sym s),
+        ap indexIn y,
+      )
 
   column-miss : bears cells m v (placeOf t r c) ≡ false → Found cells m v (InColumn t c r) None → Found cells m v (InColumn t c (r + 1)) None
   column-miss miss old q h =
       ⊎-elim
-        (λ (l : q .row < r). old q (h .0, h .1, l))
-        (λ (l : r ≤ q .row). subst (λ q. bears cells m v q ≡ false) (same-place q t r c (h .0) (let a = h .2 in omega arith) (h .1)) miss)
-        (cases-lt (q .row) r)
+      (λ (l : q .row < r). old q (h .0, h .1, l))
+      (λ (l : r ≤ q .row). subst (λ q. bears cells m v q ≡ false) (same-place q t r c (h .0) (let a = h .2 in omega arith) (h .1)) miss)
+      (cases-lt (q .row) r)
 
   pub column-other : (d n : ℕ) (w : Value) → w ≡ held m (placeOf t r c) → false ≡ sameValue w v → Found cells m v (InColumn t c r) None → Found cells m v (InColumn t c (r + 1)) None
   column-other d n w f s old = column-miss (and-right _ _ (ap (λ w. sameValue w v) (sym f) ∙ sym s)) old
@@ -95,22 +96,22 @@ module _ (cells : List Masked) (m : Model) (v : Value) (p : Place) (domain t c r
   table-on old new =
       found-more cells m v (TableTo m p domain t c) (InColumn t c rows) (TableTo m p domain t (c + 1))
       (λ q h. ⊎-elim
-        (λ (l : q .column < c). inl (h .0, l))
-        (λ (l : c ≤ q .column).
-          let e : q .column ≡ c = let a = h .1 in omega arith in
-          inr (h .0 .2, e, subst (λ k. q .row < k) (ap (λ x. rowsBefore m p x (q .column)) (h .0 .2) ∙ (ap (rowsBefore m p t) e ∙ sym is)) (h .0 .0 .2)))
-        (cases-lt (q .column) c))
+      (λ (l : q .column < c). inl (h .0, l))
+      (λ (l : c ≤ q .column).
+      let e : q .column ≡ c = let a = h .1 in omega arith in
+      inr (h .0 .2, e, subst (λ k. q .row < k) (ap (λ x. rowsBefore m p x (q .column)) (h .0 .2) ∙ (ap (rowsBefore m p t) e ∙ sym is)) (h .0 .0 .2)))
+      (cases-lt (q .column) c))
       old new
 
 -- at a column of another domain
 pub table-past : (cells : List Masked) (m : Model) (v : Value) (p : Place) (domain t c : ℕ) → (columnAt (columnsOf m t) c .domain ≡ domain → ⊥) → Found cells m v (TableTo m p domain t c) None → Found cells m v (TableTo m p domain t (c + 1)) None
 table-past cells m v p domain t c other old q h =
     ⊎-elim
-      (λ (l : q .column < c). old q (h .0, l))
-      (λ (l : c ≤ q .column).
-        let e : q .column ≡ c = let a = h .1 in omega arith in
-        absurd (other (subst (λ x. columnAt (columnsOf m x) c .domain ≡ domain) (h .0 .2) (subst (λ x. columnAt (columnsOf m (q .table)) x .domain ≡ domain) e (h .0 .1)))))
-      (cases-lt (q .column) c)
+    (λ (l : q .column < c). old q (h .0, l))
+    (λ (l : c ≤ q .column).
+    let e : q .column ≡ c = let a = h .1 in omega arith in
+    absurd (other (subst (λ x. columnAt (columnsOf m x) c .domain ≡ domain) (h .0 .2) (subst (λ x. columnAt (columnsOf m (q .table)) x .domain ≡ domain) e (h .0 .1)))))
+    (cases-lt (q .column) c)
 
 pub table-end : (cells : List Masked) (m : Model) (v : Value) (p : Place) (domain t c : ℕ) → length (columnsOf m t) ≤ c → Found cells m v (TableTo m p domain t c) None → Found cells m v (InTable m p domain t) None
 table-end cells m v p domain t c all old q h =
@@ -125,9 +126,9 @@ module _ (cells : List Masked) (m : Model) (v : Value) (p : Place) (domain t : �
   domain-on old new =
       found-more cells m v (DomainTo m p domain t) (InTable m p domain t) (DomainTo m p domain (t + 1))
       (λ q h. ⊎-elim
-        (λ (l : q .table < t). inl (h .0, l))
-        (λ (l : t ≤ q .table). inr (h .0 .0, h .0 .1, (let a = h .1 in omega arith)))
-        (cases-lt (q .table) t))
+      (λ (l : q .table < t). inl (h .0, l))
+      (λ (l : t ≤ q .table). inr (h .0 .0, h .0 .1, (let a = h .1 in omega arith)))
+      (cases-lt (q .table) t))
       old new
 
   pub domain-end : p .table < t → Found cells m v (DomainTo m p domain t) None → Found cells m v (InDomain m p domain) None

@@ -36,9 +36,9 @@ module _ (cells : List Masked) (ws ns : List ℕ) (t : ℕ) where
   pub row-known : (r : ℕ) → r < length (getD (tablesIn cells ws ns) t []) → (t < 4) × (r < getD ns t 0)
   row-known r h =
       ⊎-elim
-        (λ (a : t < 4). (a, rw (count-at a) at h))
-        (λ (a : 4 ≤ t). let e = ap length (no-table a) in absurd (omega arith))
-        (cases-lt t 4)
+      (λ (a : t < 4). (a, rw (count-at a) at h))
+      (λ (a : 4 ≤ t). let e = ap length (no-table a) in absurd (omega arith))
+      (cases-lt t 4)
 
   -- a row as it is read from a part of the cells
   pub row-read : (r : ℕ) → t < 4 → r < getD ns t 0 → rowStart t r + getD ws t 0 ≤ length cells → map maskedOf (take (getD ws t 0) (drop (rowStart t r) cells)) ≡ getD (getD (tablesIn cells ws ns) t []) r []
@@ -48,7 +48,7 @@ module _ (cells : List Masked) (ws ns : List ℕ) (t : ℕ) where
       let len : length (take (getD ws t 0) (drop (rowStart t r) cells)) ≡ getD ws t 0 = simp (length-take, length-drop) (omega arith) in
       tabled-is (λ c. maskedOf (maskedAt cells t r c)) w (map maskedOf part) (maskedOf (Value (Number 0))) (simp length-map len)
       (λ c b. getD-map maskedOf part c (Value (Number 0)) (maskedOf (Value (Number 0))) (omega arith)
-        ∙ ap maskedOf (getD-take w (drop (rowStart t r) cells) c (Value (Number 0)) b ∙ getD-drop (rowStart t r) cells c (Value (Number 0))))
+      ∙ ap maskedOf (getD-take w (drop (rowStart t r) cells) c (Value (Number 0)) b ∙ getD-drop (rowStart t r) cells c (Value (Number 0))))
       ∙ sym (row-at r h l)
 
 -- no table has more than 256 rows or 8 columns

@@ -66,10 +66,10 @@ module _ (m : Model) where
   every-before test t r c in′ h =
       every-append test (joined (tablePlaces m) (counting 0 t)) _
       (every-joined-counting (tablePlaces m) test 0 t (λ u a b. every-joined-counting (rowPlaces m u) test 0 (length (rowsOf m u)) (λ s d e. every-counting (placeOf u s) test 0 (length (columnsOf m u)) (λ k f g.
-        h (placeOf u s k) (omega arith, omega arith, grind (arith, tells))))))
+      h (placeOf u s k) (omega arith, omega arith, grind (arith, tells))))))
       (every-append test (joined (rowPlaces m t) (counting 0 r)) (tabled (placeOf t r) c)
       (every-joined-counting (rowPlaces m t) test 0 r (λ s d e. every-counting (placeOf t s) test 0 (length (columnsOf m t)) (λ k f g.
-        h (placeOf t s k) (omega arith, omega arith, grind (arith, tells)))))
+      h (placeOf t s k) (omega arith, omega arith, grind (arith, tells)))))
       (every-counting (placeOf t r) test 0 c (λ k f g. h (placeOf t r k) (omega arith, omega arith, grind (arith, tells)))))
 
 -- the linked cells of a domain
@@ -95,30 +95,31 @@ module _ (mark : Place → Mark) (m : Model) (d : ℕ) where
   unfolding linkedAmong
   linked-le ps = rw (length-map (kept-by linked ps) (held m)) (kept-le ps)
     where
-    kept-le : (ps : List Place) → length (kept-by linked ps) ≤ length ps
-    kept-le [] = omega arith
-    kept-le (p ∷ ps) = let i = kept-le ps in cond-both (linked p) (p ∷ kept-by linked ps) (kept-by linked ps) (λ xs. length xs ≤ length (p ∷ ps)) (λ e. omega arith) (λ e. omega arith)
+      kept-le : (ps : List Place) → length (kept-by linked ps) ≤ length ps
+      kept-le [] = omega arith
+      kept-le (p ∷ ps) = let i = kept-le ps in cond-both (linked p) (p ∷ kept-by linked ps) (kept-by linked ps) (λ xs. length xs ≤ length (p ∷ ps)) (λ e. omega arith) (λ e. omega arith)
 
   pub linked-split : (ps : List Place) (p : Place) (rest : List Place) → places m ≡ ps ++ p ∷ rest → linked p ≡ true → (vs : List Value) × (linkedValues mark m d ≡ linkedAmong mark m d ps ++ held m p ∷ vs)
   unfolding linkedAmong
-  linked-split ps p rest e l =
-      ( map (held m) (kept-by linked rest)
-      , ap (λ ps. map (held m) (kept-by linked ps)) e
-        ∙ rw (kept-by-append linked ps (p ∷ rest), l) (map-append (held m) (kept-by linked ps) (p ∷ kept-by linked rest)) )
+  linked-split ps p rest e l = (
+    map (held m) (kept-by linked rest),
+    ap (λ ps. map (held m) (kept-by linked ps)) e
+        ∙ rw (kept-by-append linked ps (p ∷ rest), l) (map-append (held m) (kept-by linked ps) (p ∷ kept-by linked rest)),
+  )
 
   pub linked-every : (test : Value → Bool) (ps : List Place) → every (λ p. not (linked p) || test (held m p)) ps ≡ true → every test (linkedAmong mark m d ps) ≡ true
   unfolding linkedAmong
   linked-every test ps h = every-map test (held m) (kept-by linked ps) ∙ kept ps h
     where
-    kept : (ps : List Place) → every (λ p. not (linked p) || test (held m p)) ps ≡ true → every (λ p. test (held m p)) (kept-by linked ps) ≡ true
-    kept [] h = refl
-    kept (p ∷ ps) h =
-        let i = and-parts (not (linked p) || test (held m p)) (every (λ p. not (linked p) || test (held m p)) ps) h in
-        let rest = kept ps (i .1) in
-        ⊎-elim
+      kept : (ps : List Place) → every (λ p. not (linked p) || test (held m p)) ps ≡ true → every (λ p. test (held m p)) (kept-by linked ps) ≡ true
+      kept [] h = refl
+      kept (p ∷ ps) h =
+          let i = and-parts (not (linked p) || test (held m p)) (every (λ p. not (linked p) || test (held m p)) ps) h in
+          let rest = kept ps (i .1) in
+          ⊎-elim
           (λ (e : linked p ≡ true). rw e (and-from (test (held m p)) _ (passed (linked p) (test (held m p)) e (i .0)) rest))
           (λ (e : linked p ≡ false). rw e rest)
           (cases-bool (linked p))
-      where
-      passed : (x y : Bool) → x ≡ true → (not x || y) ≡ true → y ≡ true
-      passed x y e f = grind (arith, tells)
+        where
+          passed : (x y : Bool) → x ≡ true → (not x || y) ≡ true → y ≡ true
+          passed x y e f = grind (arith, tells)

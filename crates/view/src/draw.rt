@@ -8,7 +8,6 @@ ghost use Rattle.semantics.specs.Views.{marks, placeOf, view};
 ghost use Rattle.book.specs.Books.{bookModel};
 ghost use Rattle.view.specs.Drawing.{AllDrawn, Drawn};
 ghost use Rattle.view.specs.Views.{viewTables, widthIn};
-
 use crate::mask::mask;
 use crate::masked::Masked;
 use crate::position::Position;
@@ -25,7 +24,15 @@ fn put(cells: &mut [Masked], at: Position, masked: Masked)
 }
 
 /// Draws a row, all cells before which are drawn.
-fn draw_row<P: Policy>(cells: &mut [Masked], numbers: &mut [u16; 16], book: &Book<'_>, policy: &P, broker: u16, table: usize, row: usize)
+fn draw_row<P: Policy>(
+    cells: &mut [Masked],
+    numbers: &mut [u16; 16],
+    book: &Book<'_>,
+    policy: &P,
+    broker: u16,
+    table: usize,
+    row: usize,
+)
     requires fits { ⌜ length (now cells) ≡ 8192 ⌝ ∗ (⌜ table < 4 ⌝ ∗ ⌜ row < length (rowsOf (bookModel (now book)) table) ⌝) }
     requires drawn { ⌜ Drawn (marks (P·Policy .meaning (now policy)) broker (bookModel (now book))) (bookModel (now book)) (placeOf table row 0) (now cells) (now numbers) ⌝ }
     ensures { λ _. ⌜ Drawn (marks (P·Policy .meaning (now (policy .entry))) broker (bookModel (now (book .entry)))) (bookModel (now (book .entry))) (placeOf table (row + 1) 0) (now (cells .exit)) (now (numbers .exit)) ⌝ }
@@ -42,7 +49,14 @@ fn draw_row<P: Policy>(cells: &mut [Masked], numbers: &mut [u16; 16], book: &Boo
 }
 
 /// Draws a table, all cells before which are drawn.
-fn draw_table<P: Policy>(cells: &mut [Masked], numbers: &mut [u16; 16], book: &Book<'_>, policy: &P, broker: u16, table: usize)
+fn draw_table<P: Policy>(
+    cells: &mut [Masked],
+    numbers: &mut [u16; 16],
+    book: &Book<'_>,
+    policy: &P,
+    broker: u16,
+    table: usize,
+)
     requires fits { ⌜ length (now cells) ≡ 8192 ⌝ ∗ ⌜ table < 4 ⌝ }
     requires drawn { ⌜ Drawn (marks (P·Policy .meaning (now policy)) broker (bookModel (now book))) (bookModel (now book)) (placeOf table 0 0) (now cells) (now numbers) ⌝ }
     ensures { λ _. ⌜ Drawn (marks (P·Policy .meaning (now (policy .entry))) broker (bookModel (now (book .entry)))) (bookModel (now (book .entry))) (placeOf (table + 1) 0 0) (now (cells .exit)) (now (numbers .exit)) ⌝ }
@@ -67,14 +81,24 @@ fn draw_tables<P: Policy>(cells: &mut [Masked], book: &Book<'_>, policy: &P, bro
 fn row_counts(book: &Book<'_>) -> [usize; 4]
     ensures { λ r. ⌜ r ≡ tabled (λ t. length (rowsOf (bookModel (now (book .entry))) t)) 4 ⌝ }
 {
-    [book.row_count(0), book.row_count(1), book.row_count(2), book.row_count(3)]
+    [
+        book.row_count(0),
+        book.row_count(1),
+        book.row_count(2),
+        book.row_count(3),
+    ]
 }
 
 /// How many columns each table has.
 fn widths(book: &Book<'_>) -> [usize; 4]
     ensures { λ r. ⌜ r ≡ tabled (λ t. length (columnsOf (bookModel (now (book .entry))) t)) 4 ⌝ }
 {
-    [book.columns(0).len(), book.columns(1).len(), book.columns(2).len(), book.columns(3).len()]
+    [
+        book.columns(0).len(),
+        book.columns(1).len(),
+        book.columns(2).len(),
+        book.columns(3).len(),
+    ]
 }
 
 impl View {

@@ -1,12 +1,10 @@
 ghost use mathlib.Core.Path.{_≡_};
 ghost use Prim.Native.Nat.{_<_, _≤_};
 ghost use lib.ListN.{length};
-
 ghost use Rattle.semantics.specs.Views.{held};
 ghost use Rattle.cells.specs.Cells.{cellValue};
 ghost use Rattle.book.specs.Books.{bookModel};
 ghost use Rattle.view.specs.Drawing.{Found, InColumn, InTable, InDomain, placeAt, rowsBefore};
-
 use crate::masked::Masked;
 use crate::position::Position;
 use book::Book;
@@ -19,11 +17,22 @@ pub(crate) fn cell_at(book: &Book<'_>, at: Position) -> Cell
     let Some(row) = book.row(at.table, at.row) else {
         return Cell::Number(0);
     };
-    if at.column < row.len() { row[at.column] } else { Cell::Number(0) }
+    if at.column < row.len() {
+        row[at.column]
+    } else {
+        Cell::Number(0)
+    }
 }
 
 /// The index of a pseudonym drawn for this value in the first rows of a column.
-fn find_in_column(cells: &[Masked], book: &Book<'_>, table: usize, column: usize, rows: usize, value: &Cell) -> Option<u16>
+fn find_in_column(
+    cells: &[Masked],
+    book: &Book<'_>,
+    table: usize,
+    column: usize,
+    rows: usize,
+    value: &Cell,
+) -> Option<u16>
     requires { ⌜ length (now cells) ≡ 8192 ⌝ ∗ (⌜ table < 4 ⌝ ∗ (⌜ column < 8 ⌝ ∗ ⌜ rows ≤ 256 ⌝)) }
     ensures { λ r. ⌜ Found (now (cells .entry)) (bookModel (now (book .entry))) (cellValue (now (value .entry))) (InColumn table column rows) r ⌝ }
 {
@@ -54,7 +63,14 @@ fn rows_before(book: &Book<'_>, at: Position, table: usize, column: usize) -> us
 }
 
 /// The index of a pseudonym drawn for this value before a position, in one table's columns of a domain.
-fn find_in_table(cells: &[Masked], book: &Book<'_>, at: Position, domain: u8, table: usize, value: &Cell) -> Option<u16>
+fn find_in_table(
+    cells: &[Masked],
+    book: &Book<'_>,
+    at: Position,
+    domain: u8,
+    table: usize,
+    value: &Cell,
+) -> Option<u16>
     requires { ⌜ length (now cells) ≡ 8192 ⌝ ∗ (⌜ at .table < 4 ⌝ ∗ (⌜ at .row < 256 ⌝ ∗ ⌜ table ≤ at .table ⌝)) }
     ensures { λ r. ⌜ Found (now (cells .entry)) (bookModel (now (book .entry))) (cellValue (now (value .entry))) (InTable (bookModel (now (book .entry))) (placeAt at) domain table) r ⌝ }
 {
@@ -71,7 +87,13 @@ fn find_in_table(cells: &[Masked], book: &Book<'_>, at: Position, domain: u8, ta
 }
 
 /// The index of a pseudonym drawn for this value before a position, in the columns of a domain.
-pub(crate) fn find(cells: &[Masked], book: &Book<'_>, at: Position, domain: u8, value: &Cell) -> Option<u16>
+pub(crate) fn find(
+    cells: &[Masked],
+    book: &Book<'_>,
+    at: Position,
+    domain: u8,
+    value: &Cell,
+) -> Option<u16>
     requires { ⌜ length (now cells) ≡ 8192 ⌝ ∗ (⌜ at .table < 4 ⌝ ∗ ⌜ at .row < 256 ⌝) }
     ensures { λ r. ⌜ Found (now (cells .entry)) (bookModel (now (book .entry))) (cellValue (now (value .entry))) (InDomain (bookModel (now (book .entry))) (placeAt at) domain) r ⌝ }
 {

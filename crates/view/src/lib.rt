@@ -6,6 +6,8 @@ mod mask;
 mod masked;
 mod position;
 mod read;
+#[cfg(test)]
+mod tests;
 mod view;
 
 pub use masked::Masked;

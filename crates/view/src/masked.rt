@@ -1,5 +1,4 @@
 ghost use mathlib.Core.Path.{_≡_};
-
 use cells::Cell;
 use cells::CellDebug;
 

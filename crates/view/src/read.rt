@@ -4,7 +4,6 @@ ghost use Prim.Native.Nat.{_<_, _≤_};
 ghost use lib.ListN.{length, getD, take, drop};
 ghost use Rattle.book.specs.Layout.{rowStart};
 ghost use Rattle.view.specs.Views.{viewTables, widthIn, RowSeen};
-
 use crate::masked::Masked;
 use crate::view::View;
 use cells::Cell;
@@ -14,7 +13,11 @@ impl View {
     pub fn new() -> View
         ensures { λ r. ⌜ viewTables r ≡ [] ∷ [] ∷ [] ∷ [] ∷ [] ⌝ }
     {
-        View { cells: [Masked::Value(Cell::Number(0)); 8192], counts: [0; 4], widths: [0; 4] }
+        View {
+            cells: [Masked::Value(Cell::Number(0)); 8192],
+            counts: [0; 4],
+            widths: [0; 4],
+        }
     }
 
     /// How many rows a table has, none where there is no such table.

@@ -3,7 +3,6 @@ ghost use mathlib.Core.Bool.{true};
 ghost use lib.Dec.{leb};
 ghost use lib.ListN.{length};
 ghost use Rattle.semantics.specs.Lists.{every};
-
 use crate::masked::Masked;
 
 /// What a broker sees of a book: for each table the number of its rows and columns, and the cells,

@@ -17,9 +17,10 @@ mask-masked-requires g c κs =
     let w = width-le b (a .table) in
     let n = count-le b (a .table) in
     let l = values-length b (a .table) (a .row) (c .in-Some .values .now) (c .pre .fits .1 .1) (c .in-Some .ensures tt .1) in
-    record
-      { place = (omega arith, (omega arith, (omega arith, omega arith)))
-      ; count = (c .loop-column .inv .sixteen, next-number b (marks (g .P·Policy .meaning (a .policy .now)) (a .broker) (bookModel b)) (c .loop-column .cells) (c .loop-column .numbers) (a .table) (a .row) (c .loop-column .column) (c .loop-column .inv) (c .pre .fits .1 .0) (c .pre .fits .1 .1) (omega arith)) }
+    record {
+      place = (omega arith, (omega arith, (omega arith, omega arith)));
+      count = (c .loop-column .inv .sixteen, next-number b (marks (g .P·Policy .meaning (a .policy .now)) (a .broker) (bookModel b)) (c .loop-column .cells) (c .loop-column .numbers) (a .table) (a .row) (c .loop-column .column) (c .loop-column .inv) (c .pre .fits .1 .0) (c .pre .fits .1 .1) (omega arith));
+    }
 
 pub put-requires : need.put-requires
 put-requires g c κs =

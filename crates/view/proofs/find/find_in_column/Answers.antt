@@ -15,6 +15,7 @@ pub loop-row-again : need.loop-row-again
 loop-row-again c =
     let a = c .args in
     let is = read-masked (a .cells .now) (a .table) (c .loop-row .row) (a .column) _ (omega arith) (c .index-cells-row .is) in
-    elim (c .match-masked .came)
-      [ in-Pseudonym·else-same w ↦ column-other (a .cells .now) (bookModel (a .book .now)) (cellValue (a .value .now)) (a .table) (a .column) (c .loop-row .row) (c .index-cells-row .result) is (w .in-Pseudonym .domain) (w .in-Pseudonym .index) _ (w .cell-at-cell .ensures) (w .if-same .ensures tt) (c .loop-row .inv)
-      | in-rest w ↦ column-plain (a .cells .now) (bookModel (a .book .now)) (cellValue (a .value .now)) (a .table) (a .column) (c .loop-row .row) (c .index-cells-row .result) is (not-pseudonym _ (λ d n e. w .in-rest .not-Pseudonym d n e)) (c .loop-row .inv) ]
+    elim (c .match-masked .came) [
+      | in-Pseudonym·else-same w ↦ column-other (a .cells .now) (bookModel (a .book .now)) (cellValue (a .value .now)) (a .table) (a .column) (c .loop-row .row) (c .index-cells-row .result) is (w .in-Pseudonym .domain) (w .in-Pseudonym .index) _ (w .cell-at-cell .ensures) (w .if-same .ensures tt) (c .loop-row .inv)
+      | in-rest w ↦ column-plain (a .cells .now) (bookModel (a .book .now)) (cellValue (a .value .now)) (a .table) (a .column) (c .loop-row .row) (c .index-cells-row .result) is (not-pseudonym _ (λ d n e. w .in-rest .not-Pseudonym d n e)) (c .loop-row .inv)
+    ]

@@ -16,11 +16,16 @@ pub find-in-column-requires : need.find-in-column-requires
 find-in-column-requires c κs =
     let a = c .args in
     let w = width-le (a .book .now) (a .table) in
-    let l = ap length (c .columns-columns .ensures) in
-    ( c .pre .0
-    , ( omega arith
-    , ( omega arith
-    , subst (λ n. n ≤ 256) (sym (c .rows-before-rows .ensures)) (rows-before-le (bookModel (a .book .now)) (placeAt (a .at)) (a .table) (c .loop-column .column) (count-le (a .book .now) (a .table)) (c .pre .1 .1 .0)) ) ) )
+    let l = ap length (c .columns-columns .ensures) in (
+      c .pre .0,
+      (
+        omega arith,
+        (
+          omega arith,
+          subst (λ n. n ≤ 256) (sym (c .rows-before-rows .ensures)) (rows-before-le (bookModel (a .book .now)) (placeAt (a .at)) (a .table) (c .loop-column .column) (count-le (a .book .now) (a .table)) (c .pre .1 .1 .0)),
+        ),
+      ),
+    )
 
 pub returns-in-Some : need.returns-in-Some
 returns-in-Some c =
@@ -32,9 +37,10 @@ returns-in-Some c =
 pub loop-column-again : need.loop-column-again
 loop-column-again c =
     let a = c .args in
-    elim (c .if-columns-column .came)
-      [ then-columns-column·in-rest w ↦ table-on (a .cells .now) (bookModel (a .book .now)) (cellValue (a .value .now)) (placeAt (a .at)) (a .domain) (a .table) (c .loop-column .column) (w .rows-before-rows .result) (w .rows-before-rows .ensures) (c .loop-column .inv) (w .in-rest .ensures tt)
-      | else-columns-column w ↦ table-past (a .cells .now) (bookModel (a .book .now)) (cellValue (a .value .now)) (placeAt (a .at)) (a .domain) (a .table) (c .loop-column .column) (λ e. w .if-columns-column .left (ap (λ cs. columnAt cs (c .loop-column .column) .domain) (c .columns-columns .ensures) ∙ e)) (c .loop-column .inv) ]
+    elim (c .if-columns-column .came) [
+      | then-columns-column·in-rest w ↦ table-on (a .cells .now) (bookModel (a .book .now)) (cellValue (a .value .now)) (placeAt (a .at)) (a .domain) (a .table) (c .loop-column .column) (w .rows-before-rows .result) (w .rows-before-rows .ensures) (c .loop-column .inv) (w .in-rest .ensures tt)
+      | else-columns-column w ↦ table-past (a .cells .now) (bookModel (a .book .now)) (cellValue (a .value .now)) (placeAt (a .at)) (a .domain) (a .table) (c .loop-column .column) (λ e. w .if-columns-column .left (ap (λ cs. columnAt cs (c .loop-column .column) .domain) (c .columns-columns .ensures) ∙ e)) (c .loop-column .inv)
+    ]
 
 pub returns : need.returns
 returns c =

@@ -25,6 +25,7 @@ returns-else-domain-eq0 c =
     let e = c .domain-at-domain .ensures in
     let low : c .domain-at-domain .result < 16 = omega arith in
     let some : 1 ≤ c .domain-at-domain .result = omega (arith, c .if-domain-eq0 .left) in
-    record
-      { masks = masks-linked (a .mark) d (c .in-Linked .is) some (a .cells .now) m (placeAt (a .at)) (a .numbers .now) (c .index-of-index .result) _ e (c .cell-at-cell .ensures) (c .index-of-index .ensures .index)
-      ; raised = raised-linked (a .mark) d (c .in-Linked .is) some _ (a .numbers .now) (c .index-of-index .last .numbers) e (c .pre .count .0) low (c .index-of-index .ensures .raised) }
+    record {
+      masks = masks-linked (a .mark) d (c .in-Linked .is) some (a .cells .now) m (placeAt (a .at)) (a .numbers .now) (c .index-of-index .result) _ e (c .cell-at-cell .ensures) (c .index-of-index .ensures .index);
+      raised = raised-linked (a .mark) d (c .in-Linked .is) some _ (a .numbers .now) (c .index-of-index .last .numbers) e (c .pre .count .0) low (c .index-of-index .ensures .raised);
+    }

@@ -15,6 +15,7 @@ pub returns : need.returns
 returns g c =
     let b = c .args .book .now in
     let m = bookModel b in
-    record
-      { seen = view-is (marks (g .P·Policy .meaning (c .args .policy .now)) (c .args .broker) m) m (c .draw-tables .last .cells) (c .widths-self .result) (c .row-counts-self .result) (c .draw-tables .ensures) (c .widths-self .ensures) (c .row-counts-self .ensures)
-      ; wide = widths-at b (c .widths-self .result) (c .widths-self .ensures) }
+    record {
+      seen = view-is (marks (g .P·Policy .meaning (c .args .policy .now)) (c .args .broker) m) m (c .draw-tables .last .cells) (c .widths-self .result) (c .row-counts-self .result) (c .draw-tables .ensures) (c .widths-self .ensures) (c .row-counts-self .ensures);
+      wide = widths-at b (c .widths-self .result) (c .widths-self .ensures);
+    }

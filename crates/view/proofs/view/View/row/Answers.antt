@@ -23,7 +23,8 @@ returns c =
     let h : c .args .row < length (getD (viewTables v) t []) = omega arith in
     let k = row-known (v .cells) (v .widths) (v .counts) t (c .args .row) h in
     let n = count-le v t in
-    let w = width-le v t in
-    ( h
-    , ap (map maskedOf) (c .part .ensures)
-      ∙ row-read (v .cells) (v .widths) (v .counts) t (c .args .row) (k .0) (k .1) (omega (arith, v .whole)) )
+    let w = width-le v t in (
+      h,
+      ap (map maskedOf) (c .part .ensures)
+          ∙ row-read (v .cells) (v .widths) (v .counts) t (c .args .row) (k .0) (k .1) (omega (arith, v .whole)),
+    )
