@@ -9,7 +9,7 @@ use lib.ListN.{length, getD}
 use Rattle.semantics.specs.declared.kind.Column.{Column}
 use Rattle.semantics.specs.Books.{Model, limitOf}
 use Rattle.semantics.specs.Lists.{tabled}
-use Rattle.semantics.specs.Values.{Value, number}
+use Rattle.semantics.specs.Values.{Value}
 use Rattle.cells.specs.declared.cell.Cell.{Cell}
 use Rattle.cells.specs.declared.cell.Cell.the-variants.{Number, Prefix}
 use Rattle.cells.specs.Cells.{cellValue}
@@ -54,11 +54,6 @@ isZero (Prefix p) = false
 -- A cell that no row uses is the number 0.
 abbrev pub Clean : List (List Column) → List ℕ → List Cell → Type 0
 Clean columns counts cells = (k : ℕ) → used columns counts k ≡ false → isZero (getD cells k (Number 0)) ≡ true
-
--- The layout: cell `k` holds what the book has in table (k / 8) % 4, row k / 32 and column k % 8,
--- and the number 0 where the book has nothing there.
-unfoldable pub Laid : Model → List Cell → Type 0
-Laid m cells = (k : ℕ) → cellValue (getD cells k (Number 0)) ≡ getD (getD (getD (m .tables) (k / 8 % 4) []) (k / 32) []) (k % 8) (number 0)
 
 -- What taking a row away does to the memory; `last` is the number of the table's last row before.
 pub record Removed (t row last : ℕ) (old new : List Cell) : Type 0 where

@@ -2,7 +2,7 @@ ghost use mathlib.Core.Path.{_≡_};
 ghost use lib.ListN.{length, replicate};
 ghost use Rattle.cells.specs.declared.cell.Cell.the-variants.{Number};
 ghost use Rattle.semantics.specs.Books.{opened};
-ghost use Rattle.book.specs.Books.{bookModel, memory};
+ghost use Rattle.book.specs.Books.{bookModel, memory, UnusedAreZero};
 ghost use Rattle.book.specs.Columns.{columnsIn};
 
 use crate::book::Book;
@@ -15,6 +15,7 @@ impl Draft {
     pub fn open(self, cells: &mut [Cell]) -> Book<'_>
         ensures model { λ r. ⌜ bookModel r ≡ opened (columnsIn (self .tables)) (length (now (cells .entry))) ⌝ }
         ensures cleared { λ r. ⌜ memory r ≡ replicate (length (now (cells .entry))) (Number 0) ⌝ }
+        ensures clean { λ r. ⌜ UnusedAreZero r ⌝ }
     {
         cells.fill(Cell::Number(0));
         let Draft { tables } = self;

@@ -1,12 +1,15 @@
 ghost use mathlib.Core.Path.{_≡_};
+ghost use mathlib.Core.List.{[], map};
 ghost use Prim.Native.Nat.{ℕ, _<_, _≤_};
-ghost use lib.ListN.{length, take, drop};
+ghost use lib.ListN.{length, getD, take, drop};
 ghost use Rattle.semantics.specs.Books.{columnsOf, rowsOf, limitOf};
+ghost use Rattle.cells.specs.Cells.{cellValue};
 ghost use Rattle.book.specs.Books.{bookModel, RowAt};
 ghost use Rattle.book.specs.Layout.{rowStart};
 
 use crate::book::Book;
 use crate::book::Rows;
+use crate::declare::columns_of;
 use cells::Cell;
 use semantics::Column;
 
@@ -34,7 +37,7 @@ impl Book<'_> {
     pub fn columns(&self, table: usize) -> &[Column]
         ensures { λ r. ⌜ now r ≡ columnsOf (bookModel (now (self .entry))) table ⌝ }
     {
-        if table < 4 { self.tables[table].listed() } else { &[] }
+        columns_of(&self.tables, table)
     }
 
     /// How many rows a table has, none where there is no such table.
@@ -44,6 +47,14 @@ impl Book<'_> {
         if table < 4 { self.rows.counts[table] } else { 0 }
     }
 
+    /// The cells of a row that there is.
+    fn cells_of(&self, table: usize, row: usize) -> &[Cell]
+        requires { ⌜ row < length (rowsOf (bookModel (now self)) table) ⌝ }
+        ensures { λ r. ⌜ map cellValue (now r) ≡ getD (rowsOf (bookModel (now (self .entry))) table) row [] ⌝ }
+    {
+        self.rows.part(table, row, self.tables[table].width)
+    }
+
     /// The cells of a row, where there is one of this number.
     pub fn row(&self, table: usize, row: usize) -> Option<&[Cell]>
         ensures { λ r. ⌜ RowAt (bookModel (now (self .entry))) table row r ⌝ }
@@ -51,6 +62,6 @@ impl Book<'_> {
         if row >= self.row_count(table) {
             return None;
         }
-        Some(self.rows.part(table, row, self.tables[table].width))
+        Some(self.cells_of(table, row))
     }
 }

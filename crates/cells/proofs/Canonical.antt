@@ -7,9 +7,9 @@ use lib.ListN.{length, getD, take}
 use Rattle.std.proofs.shelf.Lists.{length-take-le, getD-take, ext-getD}
 use Rattle.std.proofs.shelf.Tests.{cases-lt}
 use Rattle.cells.specs.declared.prefix.Prefix.{Prefix}
-use Rattle.cells.specs.Prefixes.{digitsOf, SameStructure}
+use Rattle.cells.specs.Prefixes.{digitsOf, Canonical}
 
-pub canonical : (p q : Prefix) → digitsOf p ≡ digitsOf q → SameStructure p q
+pub canonical : Canonical
 canonical p q same = (ext-getD 0 (p .places) (q .places) (p .eight ∙ sym (q .eight)) each, counts)
   where
   count-is : (s : Prefix) → length (digitsOf s) ≡ s .count

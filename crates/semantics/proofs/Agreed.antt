@@ -12,7 +12,7 @@ use Rattle.std.proofs.shelf.Ways.{tells}
 use Rattle.semantics.specs.declared.kind.Kind.{Kind}
 use Rattle.semantics.specs.declared.kind.Kind.the-variants.{Number, Prefix}
 use Rattle.semantics.specs.declared.kind.Column.{Column}
-use Rattle.semantics.specs.Drafts.{suits, agree, admits, agreed, mayDeclare}
+use Rattle.semantics.specs.Drafts.{suits, agree, admits, agreed, added, mayDeclare}
 use Rattle.semantics.specs.Kinds.{sameKind}
 use Rattle.semantics.specs.Lists.{every}
 use Rattle.semantics.specs.Outcomes.{done}
@@ -31,7 +31,7 @@ same-turned Prefix Prefix = refl
 -- the columns `S`, the table `t` and the column `n` that it gets
 module _ (S : List (List Column)) (t : ℕ) (n : Column) (taken : admits S (n .kind) (n .domain) ≡ true) where
   abbrev after : List (List Column)
-  after = set S t (getD S t [] ++ n ∷ [])
+  after = added S t n
 
   -- a test of the columns that every old one passes, and the new one
   spread : (p : Column → Bool) → every (every p) S ≡ true → p n ≡ true → every (every p) after ≡ true

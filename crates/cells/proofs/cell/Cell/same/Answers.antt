@@ -21,4 +21,4 @@ prefixes x y p q ds es r xe ye de ee d = rw (xe, ye, ← de, ← ee) (same-from-
 pub returns-in-Prefix-Prefix : need.returns-in-Prefix-Prefix
 returns-in-Prefix-Prefix c =
     let h = c .in-Prefix-Prefix in
-    prefixes (c .args .self .now) (c .args .other .now) (h .a) (h .b) _ _ (c .eq .result) (h .is-0) (h .is-1) (c .digits .ensures .value) (c .digits-in-Prefix-Prefix .ensures .value) (matches-decides _ _ _ (c .eq .ensures))
+    prefixes (c .args .self .now) (c .args .other .now) (h .a) (h .b) _ _ (c .eq .result) (h .is-0) (h .is-1) (c .digits .ensures) (c .digits-in-Prefix-Prefix .ensures) (matches-decides _ _ _ (c .eq .ensures))
