@@ -13,3 +13,4 @@ pub mod Domains
 pub mod Orderly
 pub mod Faithful
 pub mod Some
+pub mod Drawing
