@@ -4,7 +4,8 @@ ghost use lib.ListN.{length, set};
 ghost use Rattle.book.specs.Layout.{place};
 ghost use Rattle.semantics.specs.Books.{columnsOf, rowsOf};
 ghost use Rattle.semantics.specs.Lists.{tabled};
-ghost use Rattle.semantics.specs.Views.{marks, placeOf, view};
+ghost use Rattle.semantics.specs.Views.{Place, drawn, marks, placeOf, view};
+ghost use Rattle.semantics.specs.declared.mark.Mark.{Mark};
 ghost use Rattle.book.specs.Books.{bookModel};
 ghost use Rattle.view.specs.Drawing.{AllDrawn, Drawn};
 ghost use Rattle.view.specs.Views.{viewTables, widthIn};
@@ -102,13 +103,21 @@ fn widths(book: &Book<'_>) -> [usize; 4]
 }
 
 impl View {
+    /// Takes over how many rows and columns the tables of a book have, where the cells are drawn.
+    fn measure(&mut self, book: &Book<'_>)
+        ensures seen { λ _. ⌜ ((mark : Place → Mark) → AllDrawn mark (bookModel (now (book .entry))) (now (self .entry) .cells) → viewTables (now (self .exit)) ≡ drawn mark (bookModel (now (book .entry)))) ⌝ }
+        ensures wide { λ _. ⌜ ((t : ℕ) → widthIn (now (self .exit)) t ≡ length (columnsOf (bookModel (now (book .entry))) t)) ⌝ }
+    {
+        self.counts = row_counts(book);
+        self.widths = widths(book);
+    }
+
     /// Draws what a broker sees of a book under a policy, which is asked once for each cell.
     pub fn draw<P: Policy>(&mut self, book: &Book<'_>, policy: &P, broker: u16)
         ensures seen { λ _. ⌜ viewTables (now (self .exit)) ≡ view (P·Policy .meaning (now (policy .entry))) broker (bookModel (now (book .entry))) ⌝ }
         ensures wide { λ _. ⌜ ((t : ℕ) → widthIn (now (self .exit)) t ≡ length (columnsOf (bookModel (now (book .entry))) t)) ⌝ }
     {
         draw_tables(&mut self.cells, book, policy, broker);
-        self.counts = row_counts(book);
-        self.widths = widths(book);
+        self.measure(book);
     }
 }
