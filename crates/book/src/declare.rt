@@ -7,7 +7,6 @@ ghost use Rattle.semantics.specs.Lists.{every};
 ghost use Rattle.semantics.specs.Outcomes.{Answers, Steps, Kept};
 ghost use Rattle.std.specs.Vec.{made};
 ghost use Rattle.book.specs.Columns.{listed, columnsIn, Takes};
-
 use crate::columns::Columns;
 use crate::draft::Draft;
 use semantics::Column;
@@ -19,7 +18,11 @@ use semantics::Refusal;
 pub(crate) fn columns_of(tables: &[Columns], table: usize) -> &[Column]
     ensures { λ r. ⌜ now r ≡ getD (columnsIn (now (tables .entry))) table [] ⌝ }
 {
-    if table < tables.len() { tables[table].listed() } else { &[] }
+    if table < tables.len() {
+        tables[table].listed()
+    } else {
+        &[]
+    }
 }
 
 /// Whether the column is of another domain, or of this kind.
@@ -65,8 +68,14 @@ impl Draft {
     pub fn new() -> Draft
         ensures { λ r. ⌜ columnsIn (r .tables) ≡ blank ⌝ }
     {
-        let column = Column { kind: Kind::Number, domain: 0 };
-        let none = Columns { list: [column; 8], width: 0 };
+        let column = Column {
+            kind: Kind::Number,
+            domain: 0,
+        };
+        let none = Columns {
+            list: [column; 8],
+            width: 0,
+        };
         Draft { tables: [none; 4] }
     }
 

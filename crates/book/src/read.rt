@@ -6,7 +6,6 @@ ghost use Rattle.semantics.specs.Books.{columnsOf, rowsOf, limitOf};
 ghost use Rattle.cells.specs.Cells.{cellValue};
 ghost use Rattle.book.specs.Books.{bookModel, RowAt};
 ghost use Rattle.book.specs.Layout.{rowStart};
-
 use crate::book::Book;
 use crate::book::Rows;
 use crate::declare::columns_of;
@@ -44,7 +43,10 @@ impl Book<'_> {
     pub fn row_count(&self, table: usize) -> usize
         ensures { λ r. ⌜ r ≡ length (rowsOf (bookModel (now (self .entry))) table) ⌝ }
     {
-        if table < 4 { self.rows.counts[table] } else { 0 }
+        if table >= 4 {
+            return 0;
+        }
+        self.rows.counts[table]
     }
 
     /// The cells of a row that there is.

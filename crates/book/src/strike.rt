@@ -5,7 +5,6 @@ ghost use Rattle.semantics.specs.Books.{limitOf, mayStrike, struck};
 ghost use Rattle.semantics.specs.Outcomes.{Answers, Steps, Kept, done};
 ghost use Rattle.book.specs.Books.{bookModel, memory, UnusedAreZero};
 ghost use Rattle.book.specs.Layout.{Removed};
-
 use crate::book::Book;
 use crate::book::Rows;
 use cells::Cell;

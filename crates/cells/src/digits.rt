@@ -6,7 +6,6 @@ ghost use Rattle.semantics.specs.Lists.{every};
 ghost use Rattle.semantics.specs.Outcomes.{AnswersAs};
 ghost use Rattle.semantics.specs.Values.{isDigit, prefixFrom};
 ghost use Rattle.cells.specs.Prefixes.{digitsOf, Canonical};
-
 use crate::prefix::Prefix;
 use semantics::Refusal;
 
@@ -31,7 +30,10 @@ impl Prefix {
         let count = digits.len();
         let mut places = [0; 8];
         places[0..count].copy_from_slice(digits);
-        Prefix { places, count: count as u8 }
+        Prefix {
+            places,
+            count: count as u8,
+        }
     }
 
     /// The prefix with these digits.
@@ -55,5 +57,4 @@ impl Prefix {
 /// Prefixes with the same digits are the same structure.
 pub(crate) fn prefixes_are_canonical()
     ensures { λ _. ⌜ Canonical ⌝ }
-{
-}
+{}

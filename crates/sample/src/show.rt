@@ -10,7 +10,11 @@ use view::Masked;
 use view::View;
 
 /// A call and what it came to.
-pub(crate) fn step(rt: &LibcRuntime, call: &str, done: Result<(), Refusal>) -> Result<(), AnyError> {
+pub(crate) fn step(
+    rt: &LibcRuntime,
+    call: &str,
+    done: Result<(), Refusal>,
+) -> Result<(), AnyError> {
     match done {
         Ok(()) => println!(rt, "  {call:<40} done")?,
         Err(refusal) => {
@@ -84,7 +88,12 @@ fn masked_line(rt: &LibcRuntime, row: usize, cells: &[Masked]) -> Result<(), Any
 }
 
 /// The rows of a table as they are seen.
-pub(crate) fn view(rt: &LibcRuntime, head: &str, view: &View, table: usize) -> Result<(), AnyError> {
+pub(crate) fn view(
+    rt: &LibcRuntime,
+    head: &str,
+    view: &View,
+    table: usize,
+) -> Result<(), AnyError> {
     println!(rt, "{head}")?;
     for row in 0..view.row_count(table) {
         if let Some(cells) = view.row(table, row) {

@@ -22,10 +22,25 @@ fn filters() -> Result<Filters, Refusal> {
     let allow = Sign::Allow;
     let test = Test::Always;
     for column in 0..3 {
-        filters.add(Rule { broker: 7, table: 0, column, sign: allow, test })?;
+        filters.add(Rule {
+            broker: 7,
+            table: 0,
+            column,
+            sign: allow,
+            test,
+        })?;
     }
-    let test = Test::Holds { column: 1, number: 2 };
-    filters.add(Rule { broker: 7, table: 0, column: 0, sign: Sign::Prohibit, test })?;
+    let test = Test::Holds {
+        column: 1,
+        number: 2,
+    };
+    filters.add(Rule {
+        broker: 7,
+        table: 0,
+        column: 0,
+        sign: Sign::Prohibit,
+        test,
+    })?;
     Ok(filters)
 }
 
@@ -36,10 +51,16 @@ pub(crate) fn tariffs(rt: &LibcRuntime, book: &Book<'_>) -> Result<(), AnyError>
     };
     let mut view = View::new();
     view.draw(book, &filters, 7);
-    println!(rt, "Broker 7 may see all, but not the prefixes of carrier 2:")?;
+    println!(
+        rt,
+        "Broker 7 may see all, but not the prefixes of carrier 2:"
+    )?;
     show::view(rt, "  row    prefix   carrier     price", &view, 0)?;
     view.draw(book, &filters, 8);
-    println!(rt, "Broker 8 may see nothing. Each cell is a variable, ?table.row.column:")?;
+    println!(
+        rt,
+        "Broker 8 may see nothing. Each cell is a variable, ?table.row.column:"
+    )?;
     show::view(rt, "  row    prefix   carrier     price", &view, 0)
 }
 
@@ -50,8 +71,16 @@ fn consents() -> Result<Consents, Refusal> {
     let mut linked = [false; 8];
     shown[1] = true;
     linked[0] = true;
-    consents.set(Consent { key: 501, shown, linked })?;
-    consents.set(Consent { key: 502, shown, linked })?;
+    consents.set(Consent {
+        key: 501,
+        shown,
+        linked,
+    })?;
+    consents.set(Consent {
+        key: 502,
+        shown,
+        linked,
+    })?;
     Ok(consents)
 }
 
@@ -86,7 +115,13 @@ pub(crate) fn offers(rt: &LibcRuntime) -> Result<(), AnyError> {
     };
     let mut view = View::new();
     view.draw(&book, &consents, 7);
-    println!(rt, "Offers to customers 501, 502, 501 and 503. The first two let their offers be linked by a")?;
-    println!(rt, "pseudonym, domain#index: offers 0 and 2 are seen to be one customer's, but not whose.")?;
+    println!(
+        rt,
+        "Offers to customers 501, 502, 501 and 503. The first two let their offers be linked by a"
+    )?;
+    println!(
+        rt,
+        "pseudonym, domain#index: offers 0 and 2 are seen to be one customer's, but not whose."
+    )?;
     show::view(rt, "  row  customer     price", &view, 3)
 }

@@ -33,7 +33,7 @@ placeOf t r c = record { table = t; row = r; column = c }
 abbrev pub places : Model → List Place
 places m =
     joined (λ t.
-      joined (λ r. tabled (placeOf t r) (length (columnsOf m t))) (counting 0 (length (rowsOf m t))))
+    joined (λ r. tabled (placeOf t r) (length (columnsOf m t))) (counting 0 (length (rowsOf m t))))
     (counting 0 4)
 
 -- The values of the row of a cell, its own value, and the domain of its column.

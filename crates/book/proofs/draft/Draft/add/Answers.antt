@@ -15,11 +15,14 @@ push-requires c κs =
 pub ghost-self : need.ghost-self
 ghost-self c =
     let ts = c .args .self .now .tables in
-    let t = c .args .table in
-    ( length-set ts t (c .push .last .self) ∙ c .args .self .now .four
-    , ( ap agreed (declared-is ts t (c .index-self-table .result) (c .push .last .self) (c .args .column) (omega arith) (c .push .ensures))
-        ∙ declare-agreed (columnsIn ts) t (c .args .column) (c .pre .2) (c .args .self .now .domains)
-    , tt ) )
+    let t = c .args .table in (
+      length-set ts t (c .push .last .self) ∙ c .args .self .now .four,
+      (
+        ap agreed (declared-is ts t (c .index-self-table .result) (c .push .last .self) (c .args .column) (omega arith) (c .push .ensures))
+            ∙ declare-agreed (columnsIn ts) t (c .args .column) (c .pre .2) (c .args .self .now .domains),
+        tt,
+      ),
+    )
 
 pub returns : need.returns
 returns c = declared-is (c .args .self .now .tables) (c .args .table) (c .index-self-table .result) (c .push .last .self) (c .args .column) (omega arith) (c .push .ensures)

@@ -12,12 +12,19 @@ ghost-result c =
     let digits = c .args .digits .now in
     let front = c .copy-from-slice .last .self in
     let is = c .copy-from-slice .ensures .after in
-    let all : length digits - 0 ≡ length digits = omega arith in
-    ( omega arith
-    , ( padded-length digits front (length digits - 0) (omega arith) is all
-    , ( ap (every isDigit) (padded-digits digits front (length digits - 0) (omega arith) is all) ∙ c .pre .1
-    , ( padded-blank digits front (length digits - 0) (omega arith) is all
-    , tt ) ) ) )
+    let all : length digits - 0 ≡ length digits = omega arith in (
+      omega arith,
+      (
+        padded-length digits front (length digits - 0) (omega arith) is all,
+        (
+          ap (every isDigit) (padded-digits digits front (length digits - 0) (omega arith) is all) ∙ c .pre .1,
+          (
+            padded-blank digits front (length digits - 0) (omega arith) is all,
+            tt,
+          ),
+        ),
+      ),
+    )
 
 pub returns : need.returns
 returns c =
