@@ -1,9 +1,9 @@
 -- One more cell of a view.
 use mathlib.Core.Path.{_≡_, refl, sym, ap, _∙_, subst}
 use mathlib.Core.Bool.{Bool, true, false, cond, not, _&&_, _||_}
-use mathlib.Core.List.{List, [], _∷_, _++_}
-use mathlib.Core.Logic.{_⊎_, _≢_, inl, inr, ⊎-elim}
-use Prim.Native.Nat.{ℕ, _+_, _*_, _<_, _≤_, zero, suc}
+use mathlib.Core.List.{List, []}
+use mathlib.Core.Logic.{_≢_, ⊎-elim}
+use Prim.Native.Nat.{ℕ, _+_, _<_, _≤_, zero, suc}
 use native.Mathlib.Omega.{arith}
 use lib.Dec.{leb, ltb, eqb}
 use lib.ListN.{length, getD, set}
@@ -29,7 +29,7 @@ use Rattle.book.proofs.Tabled.{getD-tabled, tabled-same}
 use Rattle.view.specs.declared.masked.Masked.{Masked}
 use Rattle.view.specs.declared.masked.Masked.the-variants.{Value, Variable, Pseudonym}
 use Rattle.view.specs.Views.{maskedOf, maskedAt, rowIn, tableIn, tablesIn}
-use Rattle.view.specs.Drawing.{cellOf, placesBefore, rowsBefore, Before, linkedAmong, isPseudonym, bears, indexIn, Found, InDomain, Indexed, Raised, Drawn, AllDrawn, Masks}
+use Rattle.view.specs.Drawing.{cellOf, placesBefore, Before, linkedAmong, isPseudonym, indexIn, Found, InDomain, Indexed, Raised, Drawn, AllDrawn, Masks}
 use Rattle.view.proofs.Books.{width-le, count-le, domain-lt, no-columns}
 use Rattle.view.proofs.Finding.{same-place}
 use Rattle.view.proofs.Order.{before-none, before-cell, before-row, before-table, before-split, before-length, every-before, linked-more, linked-none, linked-le, linked-split, linked-every}

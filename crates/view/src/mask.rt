@@ -27,7 +27,8 @@ fn domain_at(book: &Book<'_>, at: Position) -> u8
     }
 }
 
-/// The index for the value of a linked cell of a domain, which is counted.
+/// The index for the value of a linked cell of a domain, which is counted: `numbers` has how many
+/// linked cells of each domain are drawn.
 fn index_of(
     cells: &[Masked],
     numbers: &mut [u16; 16],
