@@ -74,7 +74,11 @@ fn variable(table: usize, row: usize, column: usize) -> Masked
     requires { ⌜ table < 256 ⌝ ∗ (⌜ row < 256 ⌝ ∗ ⌜ column < 256 ⌝) }
     ensures { λ r. ⌜ r ≡ Variable table row column ⌝ }
 {
-    Masked::Variable { table: table as u8, row: row as u8, column: column as u8 }
+    Masked::Variable {
+        table: table as u8,
+        row: row as u8,
+        column: column as u8,
+    }
 }
 
 /// How the cell at a position is masked under its mark; a linked cell of a domain is counted.

@@ -22,6 +22,7 @@ returns c =
     let p = c .pre in
     let l = domain-lt (a .book .now) (a .at .table) (a .at .column) in
     let low : a .domain < 16 = omega arith in
-    record
-      { masks = masks-linked Linked (a .domain) refl (p .linked .1) (a .cells .now) (bookModel (a .book .now)) (placeAt (a .at)) (a .numbers .now) (c .index-of-index .result) _ (p .linked .0) (c .cell-at-cell .ensures) (c .index-of-index .ensures .index)
-      ; raised = raised-linked Linked (a .domain) refl (p .linked .1) _ (a .numbers .now) (c .index-of-index .last .numbers) (p .linked .0) (p .count .0) low (c .index-of-index .ensures .raised) }
+    record {
+      masks = masks-linked Linked (a .domain) refl (p .linked .1) (a .cells .now) (bookModel (a .book .now)) (placeAt (a .at)) (a .numbers .now) (c .index-of-index .result) _ (p .linked .0) (c .cell-at-cell .ensures) (c .index-of-index .ensures .index);
+      raised = raised-linked Linked (a .domain) refl (p .linked .1) _ (a .numbers .now) (c .index-of-index .last .numbers) (p .linked .0) (p .count .0) low (c .index-of-index .ensures .raised);
+    }
