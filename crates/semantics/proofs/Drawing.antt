@@ -1,22 +1,21 @@
 -- Drawing a view in order: the index of a linked cell is known from the linked cells before it.
-use mathlib.Core.Path.{_≡_, refl, sym, ap, _∙_, subst}
-use mathlib.Core.Bool.{Bool, true, false, cond, not, _&&_}
+use mathlib.Core.Path.{_≡_, refl, sym, ap, _∙_}
+use mathlib.Core.Bool.{Bool, true, false, not}
 use mathlib.Core.List.{List, [], _∷_, _++_, map, append-assoc, append-nil}
-use Prim.Native.Nat.{ℕ, _+_, _-_, _*_, _<_, _≤_, zero, suc}
+use Prim.Native.Nat.{ℕ, _+_, _*_, _<_, _≤_, zero, suc}
 use native.Mathlib.Nat.{mul-suc}
 use native.Mathlib.Numerals.{add-one}
 use native.Mathlib.Omega.{arith}
 use lib.Dec.{eqb}
-use lib.ListN.{length, getD}
+use lib.ListN.{length}
 use Rattle.std.specs.Iters.{counting}
 use Rattle.std.specs.Orderings.{Decides}
-use Rattle.std.specs.shelf.Lists.{joined, kept-by}
-use Rattle.std.proofs.shelf.Elements.{kept-by-append}
+use Rattle.std.specs.shelf.Lists.{joined}
 use Rattle.std.proofs.shelf.Equals.{compares-decides}
 use Rattle.std.proofs.shelf.Lists.{length-append}
-use Rattle.std.proofs.shelf.Tests.{and-parts, and-from, not-true, both-ways}
+use Rattle.std.proofs.shelf.Tests.{and-parts, and-from, not-true}
 use Rattle.std.proofs.shelf.Ways.{tells}
-use Rattle.semantics.specs.Lists.{every, pairwise, tabled}
+use Rattle.semantics.specs.Lists.{every, pairwise}
 use Rattle.semantics.specs.Values.{Value, number, prefix, sameValue}
 use Rattle.semantics.specs.Views.{indexOf}
 use Rattle.semantics.proofs.Every.{every-append}

@@ -1,17 +1,16 @@
 -- Limits of a book.
 use mathlib.Core.Path.{_≡_, refl, sym, ap, _∙_}
-use mathlib.Core.Bool.{Bool, true, false, _&&_, _||_}
+use mathlib.Core.Bool.{true}
 use mathlib.Core.List.{List, [], map}
 use Prim.Native.Nat.{ℕ, _<_, _≤_}
 use native.Mathlib.Omega.{arith}
-use lib.Dec.{ltb, eqb}
 use lib.ListN.{length, getD}
 use Rattle.std.proofs.shelf.Lists.{getD-past, length-map}
 use Rattle.std.proofs.shelf.Ways.{tells}
 use Rattle.semantics.specs.declared.kind.Kind.{Kind}
 use Rattle.semantics.specs.declared.kind.Column.{Column}
 use Rattle.semantics.specs.Books.{columnsOf, rowsOf, columnAt}
-use Rattle.semantics.specs.Drafts.{admits, agree}
+use Rattle.semantics.specs.Drafts.{admits}
 use Rattle.semantics.specs.Lists.{every}
 use Rattle.semantics.proofs.Every.{every-getD}
 use Rattle.semantics.proofs.Lawful.{rows-within}
@@ -20,7 +19,6 @@ use Rattle.cells.specs.Cells.{cellValue}
 use Rattle.book.specs.declared.book.Book.{Book}
 use Rattle.book.specs.Books.{bookModel, memory}
 use Rattle.book.specs.Columns.{listed, columnsIn}
-use Rattle.book.specs.Layout.{cellAt}
 use Rattle.book.proofs.Listing as listing
 use Rattle.book.proofs.Memory.{row-known, row-at}
 use Rattle.book.proofs.Tabled.{length-tabled}

@@ -1,9 +1,9 @@
 -- One more cell of a view.
 use mathlib.Core.Path.{_≡_, refl, sym, ap, _∙_, subst}
 use mathlib.Core.Bool.{Bool, true, false, cond, not, _&&_, _||_}
-use mathlib.Core.List.{List, [], _∷_, _++_}
-use mathlib.Core.Logic.{_⊎_, _≢_, inl, inr, ⊎-elim}
-use Prim.Native.Nat.{ℕ, _+_, _*_, _<_, _≤_, zero, suc}
+use mathlib.Core.List.{List, []}
+use mathlib.Core.Logic.{_≢_, ⊎-elim}
+use Prim.Native.Nat.{ℕ, _+_, _<_, _≤_, zero, suc}
 use native.Mathlib.Omega.{arith}
 use lib.Dec.{leb, ltb, eqb}
 use lib.ListN.{length, getD, set}
@@ -16,9 +16,10 @@ use Rattle.semantics.specs.declared.mark.Mark.the-variants.{Hidden, Linked, Sho
 use Rattle.semantics.specs.Books.{Model, columnsOf, rowsOf}
 use Rattle.semantics.specs.Lists.{every, tabled}
 use Rattle.semantics.specs.Marks.{isMark}
+use Rattle.semantics.specs.Policies.{Meaning}
 use Rattle.semantics.specs.Values as values
 use Rattle.semantics.specs.Views as semantics
-use Rattle.semantics.specs.Views.{Place, placeOf, held, domainOf, linkedValues, indexOf, masked, seen}
+use Rattle.semantics.specs.Views.{Place, placeOf, held, domainOf, linkedValues, indexOf, marks, masked, rowOf, seen}
 use Rattle.semantics.proofs.Drawing.{same-equal, index-new, every-counting}
 use Rattle.cells.specs.declared.cell.Cell.the-variants.{Number}
 use Rattle.book.specs.declared.book.Book.{Book}
@@ -28,7 +29,7 @@ use Rattle.book.proofs.Tabled.{getD-tabled, tabled-same}
 use Rattle.view.specs.declared.masked.Masked.{Masked}
 use Rattle.view.specs.declared.masked.Masked.the-variants.{Value, Variable, Pseudonym}
 use Rattle.view.specs.Views.{maskedOf, maskedAt, rowIn, tableIn, tablesIn}
-use Rattle.view.specs.Drawing.{cellOf, placesBefore, rowsBefore, Before, linkedAmong, isPseudonym, bears, indexIn, Found, InDomain, Indexed, Raised, Drawn, AllDrawn, Masks}
+use Rattle.view.specs.Drawing.{cellOf, placesBefore, Before, linkedAmong, isPseudonym, indexIn, Found, InDomain, Indexed, Raised, Drawn, AllDrawn, Masks}
 use Rattle.view.proofs.Books.{width-le, count-le, domain-lt, no-columns}
 use Rattle.view.proofs.Finding.{same-place}
 use Rattle.view.proofs.Order.{before-none, before-cell, before-row, before-table, before-split, before-length, every-before, linked-more, linked-none, linked-le, linked-split, linked-every}
@@ -233,6 +234,10 @@ module _ (mark : Mark) (d : ℕ) (link : mark ≡ Linked) (some : 1 ≤ d) where
           (λ (same : k ≡ d). subst (λ j. getD (set old d (getD old d 0 + 1)) j 0 ≡ getD old j 0 + cond (eqb d j) 1 0) (sym same) (getD-set-same old d (getD old d 0 + 1) 0 (omega arith) ∙ rw (eq-eqb d d refl)))
           (λ (ne : k ≡ d → ⊥). getD-set-other old d k (getD old d 0 + 1) 0 ne ∙ (let t = ne-eqb d k (λ q. ne (sym q)) in rw t (omega arith)))
           (cases-eq k d)
+
+-- what a policy answers for the values of a row is the mark of the cell
+pub mark-is : (meaning : Meaning) (broker : ℕ) (m : Model) (p : Place) (k : Mark) (vs : List values.Value) → k ≡ meaning broker (p .table) vs (p .column) → vs ≡ rowOf m p → k ≡ marks meaning broker m p
+mark-is meaning broker m p k vs asked row = asked ∙ ap (λ vs. meaning broker (p .table) vs (p .column)) row
 
 -- the next cell of a book's row: `k` is its mark, `x` how it is masked
 module _ (b : Book) (mark : Place → Mark) (cells : List Masked) (numbers : List ℕ) (t r c : ℕ) (drawn : Drawn mark (bookModel b) (placeOf t r c) cells numbers) (in-table : t < 4) (in-row : r < length (rowsOf (bookModel b) t)) (in-column : c < length (columnsOf (bookModel b) t)) where

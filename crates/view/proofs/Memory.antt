@@ -1,6 +1,5 @@
 -- The cells of a view, table by table and row by row.
 use mathlib.Core.Path.{_≡_, refl, sym, ap, _∙_}
-use mathlib.Core.Bool.{true}
 use mathlib.Core.List.{List, [], map}
 use mathlib.Core.Logic.{⊎-elim}
 use Prim.Native.Nat.{ℕ, _+_, _<_, _≤_}
@@ -10,7 +9,6 @@ use lib.ListN.{length, getD, take, drop}
 use Rattle.std.proofs.shelf.Lists.{getD-past, length-take, length-drop, length-map, getD-map, getD-take, getD-drop}
 use Rattle.std.proofs.shelf.Tests.{cases-lt, leb-true}
 use Rattle.semantics.proofs.Every.{every-getD}
-use Rattle.semantics.specs.Views as semantics
 use Rattle.cells.specs.declared.cell.Cell.the-variants.{Number}
 use Rattle.book.specs.Layout.{rowStart}
 use Rattle.book.proofs.Tabled.{length-tabled, getD-tabled, tabled-is}

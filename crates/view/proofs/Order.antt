@@ -1,11 +1,11 @@
 -- The cells before a place, one more at a time, and the linked ones among them.
-use mathlib.Core.Path.{_≡_, refl, sym, ap, _∙_, subst}
+use mathlib.Core.Path.{_≡_, refl, ap, _∙_}
 use mathlib.Core.Bool.{Bool, true, false, cond, not, _&&_, _||_}
 use mathlib.Core.List.{List, [], _∷_, _++_, map, append-assoc, append-nil, map-append}
 use mathlib.Core.Logic.{⊎-elim}
 use Prim.Native.Nat.{ℕ, _+_, _*_, _<_, _≤_}
 use native.Mathlib.Omega.{arith}
-use lib.Dec.{ltb, eqb}
+use lib.Dec.{eqb}
 use lib.ListN.{length}
 use Rattle.std.specs.Iters.{counting}
 use Rattle.std.specs.shelf.Lists.{joined, kept-by}
@@ -19,11 +19,11 @@ use Rattle.semantics.specs.declared.mark.Mark.the-variants.{Linked}
 use Rattle.semantics.specs.Books.{Model, columnsOf, rowsOf}
 use Rattle.semantics.specs.Lists.{every, tabled}
 use Rattle.semantics.specs.Marks.{isMark}
-use Rattle.semantics.specs.Values.{Value, sameValue}
+use Rattle.semantics.specs.Values.{Value}
 use Rattle.semantics.specs.Views.{Place, placeOf, places, held, domainOf, linkedValues}
 use Rattle.semantics.proofs.Drawing.{joined-counting-more, joined-counting-split, every-joined-counting, length-joined-counting, counting-split, every-counting}
 use Rattle.semantics.proofs.Every.{every-append, every-map}
-use Rattle.view.specs.Drawing.{rowPlaces, tablePlaces, placesBefore, rowsBefore, Before, linkedAmong}
+use Rattle.view.specs.Drawing.{rowPlaces, tablePlaces, placesBefore, Before, linkedAmong}
 
 module _ (m : Model) where
   pub before-none : placesBefore m (placeOf 0 0 0) ≡ []

@@ -15,8 +15,9 @@ use Rattle.semantics.specs.declared.mark.Mark.the-variants.{Linked}
 use Rattle.semantics.specs.Books.{Model, columnsOf, rowsOf}
 use Rattle.semantics.specs.Lists.{tabled}
 use Rattle.semantics.specs.Marks.{isMark}
+use Rattle.semantics.specs.Policies.{Meaning}
 use Rattle.semantics.specs.Values.{Value, sameValue}
-use Rattle.semantics.specs.Views.{Place, placeOf, held, domainOf, seen, masked}
+use Rattle.semantics.specs.Views.{Place, placeOf, held, domainOf, marks, seen, masked}
 use Rattle.view.specs.declared.masked.Masked.{Masked}
 use Rattle.view.specs.declared.masked.Masked.the-variants as code
 use Rattle.view.specs.declared.position.Position.{Position}
@@ -104,6 +105,10 @@ pub record Drawn (mark : Place → Mark) (m : Model) (p : Place) (cells : List M
   pub cellwise : (q : Place) → Before m p q → maskedOf (cellOf cells q) ≡ seen mark m q
   pub counted : (d : ℕ) → 1 ≤ d → d < 16 → getD numbers d 0 ≡ length (linkedAmong mark m d (placesBefore m p))
   pub sixteen : length numbers ≡ 16
+
+-- The same under a policy, for a broker.
+abbrev pub DrawnFor : Meaning → ℕ → Model → Place → List Masked → List ℕ → Type 0
+DrawnFor meaning broker m p cells numbers = Drawn (marks meaning broker m) m p cells numbers
 
 -- The whole view is drawn.
 abbrev pub AllDrawn : (Place → Mark) → Model → List Masked → Type 0

@@ -7,7 +7,7 @@ ghost use Rattle.semantics.specs.Lists.{tabled};
 ghost use Rattle.semantics.specs.Views.{Place, drawn, marks, placeOf, view};
 ghost use Rattle.semantics.specs.declared.mark.Mark.{Mark};
 ghost use Rattle.book.specs.Books.{bookModel};
-ghost use Rattle.view.specs.Drawing.{AllDrawn, Drawn};
+ghost use Rattle.view.specs.Drawing.{AllDrawn, DrawnFor};
 ghost use Rattle.view.specs.Views.{viewTables, widthIn};
 use crate::mask::mask;
 use crate::masked::Masked;
@@ -24,7 +24,7 @@ fn put(cells: &mut [Masked], at: Position, masked: Masked)
     cells[32 * at.row + 8 * at.table + at.column] = masked;
 }
 
-/// Draws a row, all cells before which are drawn.
+/// Draws a row, all cells before which are drawn; `numbers` counts the linked cells of each domain.
 fn draw_row<P: Policy>(
     cells: &mut [Masked],
     numbers: &mut [u16; 16],
@@ -35,8 +35,8 @@ fn draw_row<P: Policy>(
     row: usize,
 )
     requires fits { ⌜ length (now cells) ≡ 8192 ⌝ ∗ (⌜ table < 4 ⌝ ∗ ⌜ row < length (rowsOf (bookModel (now book)) table) ⌝) }
-    requires drawn { ⌜ Drawn (marks (P·Policy .meaning (now policy)) broker (bookModel (now book))) (bookModel (now book)) (placeOf table row 0) (now cells) (now numbers) ⌝ }
-    ensures { λ _. ⌜ Drawn (marks (P·Policy .meaning (now (policy .entry))) broker (bookModel (now (book .entry)))) (bookModel (now (book .entry))) (placeOf table (row + 1) 0) (now (cells .exit)) (now (numbers .exit)) ⌝ }
+    requires drawn { ⌜ DrawnFor (P·Policy .meaning (now policy)) broker (bookModel (now book)) (placeOf table row 0) (now cells) (now numbers) ⌝ }
+    ensures { λ _. ⌜ DrawnFor (P·Policy .meaning (now (policy .entry))) broker (bookModel (now (book .entry))) (placeOf table (row + 1) 0) (now (cells .exit)) (now (numbers .exit)) ⌝ }
 {
     let Some(values) = book.row(table, row) else {
         return;
@@ -49,7 +49,7 @@ fn draw_row<P: Policy>(
     }
 }
 
-/// Draws a table, all cells before which are drawn.
+/// Draws a table, all cells before which are drawn; `numbers` counts the linked cells of each domain.
 fn draw_table<P: Policy>(
     cells: &mut [Masked],
     numbers: &mut [u16; 16],
@@ -59,8 +59,8 @@ fn draw_table<P: Policy>(
     table: usize,
 )
     requires fits { ⌜ length (now cells) ≡ 8192 ⌝ ∗ ⌜ table < 4 ⌝ }
-    requires drawn { ⌜ Drawn (marks (P·Policy .meaning (now policy)) broker (bookModel (now book))) (bookModel (now book)) (placeOf table 0 0) (now cells) (now numbers) ⌝ }
-    ensures { λ _. ⌜ Drawn (marks (P·Policy .meaning (now (policy .entry))) broker (bookModel (now (book .entry)))) (bookModel (now (book .entry))) (placeOf (table + 1) 0 0) (now (cells .exit)) (now (numbers .exit)) ⌝ }
+    requires drawn { ⌜ DrawnFor (P·Policy .meaning (now policy)) broker (bookModel (now book)) (placeOf table 0 0) (now cells) (now numbers) ⌝ }
+    ensures { λ _. ⌜ DrawnFor (P·Policy .meaning (now (policy .entry))) broker (bookModel (now (book .entry))) (placeOf (table + 1) 0 0) (now (cells .exit)) (now (numbers .exit)) ⌝ }
 {
     for row in 0..book.row_count(table) {
         draw_row(cells, numbers, book, policy, broker, table, row);

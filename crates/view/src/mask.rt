@@ -1,6 +1,7 @@
 ghost use mathlib.Core.Path.{_≡_};
 ghost use Prim.Native.Nat.{ℕ, _+_, _<_, _≤_};
 ghost use lib.ListN.{length, getD, set};
+ghost use Rattle.semantics.specs.declared.mark.Mark.the-variants.{Linked};
 ghost use Rattle.semantics.specs.Views.{domainOf};
 ghost use Rattle.cells.specs.Cells.{cellValue};
 ghost use Rattle.book.specs.Books.{bookModel};
@@ -26,7 +27,8 @@ fn domain_at(book: &Book<'_>, at: Position) -> u8
     }
 }
 
-/// The index for the value of a linked cell of a domain, which is counted.
+/// The index for the value of a linked cell of a domain, which is counted: `numbers` has how many
+/// linked cells of each domain are drawn.
 fn index_of(
     cells: &[Masked],
     numbers: &mut [u16; 16],
@@ -48,12 +50,35 @@ fn index_of(
     }
 }
 
+/// The pseudonym of a linked cell of a domain, which is counted.
+fn pseudonym(
+    cells: &[Masked],
+    numbers: &mut [u16; 16],
+    book: &Book<'_>,
+    at: Position,
+    domain: u8,
+) -> Masked
+    requires place { ⌜ length (now cells) ≡ 8192 ⌝ ∗ (⌜ at .table < 4 ⌝ ∗ ⌜ at .row < 256 ⌝) }
+    requires count { ⌜ length (now numbers) ≡ 16 ⌝ ∗ ⌜ ((d : ℕ) → 1 ≤ d → d < 16 → getD (now numbers) d 0 < 8192) ⌝ }
+    requires linked { ⌜ domain ≡ domainOf (bookModel (now book)) (placeAt at) ⌝ ∗ ⌜ 1 ≤ domain ⌝ }
+    ensures masks { λ r. ⌜ Masks (now (cells .entry)) (bookModel (now (book .entry))) Linked (placeAt at) (getD (now (numbers .entry)) (domainOf (bookModel (now (book .entry))) (placeAt at)) 0) r ⌝ }
+    ensures raised { λ _. ⌜ Raised Linked (domainOf (bookModel (now (book .entry))) (placeAt at)) (now (numbers .entry)) (now (numbers .exit)) ⌝ }
+{
+    let cell = cell_at(book, at);
+    let index = index_of(cells, numbers, book, at, domain, &cell);
+    Masked::Pseudonym { domain, index }
+}
+
 /// The variable of a place.
 fn variable(table: usize, row: usize, column: usize) -> Masked
     requires { ⌜ table < 256 ⌝ ∗ (⌜ row < 256 ⌝ ∗ ⌜ column < 256 ⌝) }
     ensures { λ r. ⌜ r ≡ Variable table row column ⌝ }
 {
-    Masked::Variable { table: table as u8, row: row as u8, column: column as u8 }
+    Masked::Variable {
+        table: table as u8,
+        row: row as u8,
+        column: column as u8,
+    }
 }
 
 /// How the cell at a position is masked under its mark; a linked cell of a domain is counted.
@@ -70,7 +95,6 @@ pub(crate) fn mask(
     ensures raised { λ _. ⌜ Raised mark (domainOf (bookModel (now (book .entry))) (placeAt at)) (now (numbers .entry)) (now (numbers .exit)) ⌝ }
 {
     let domain = domain_at(book, at);
-    let cell = cell_at(book, at);
     let hidden = variable(at.table, at.row, at.column);
     match mark {
         Mark::Hidden => hidden,
@@ -78,10 +102,9 @@ pub(crate) fn mask(
             if domain == 0 {
                 hidden
             } else {
-                let index = index_of(cells, numbers, book, at, domain, &cell);
-                Masked::Pseudonym { domain, index }
+                pseudonym(cells, numbers, book, at, domain)
             }
         }
-        Mark::Shown => Masked::Value(cell),
+        Mark::Shown => Masked::Value(cell_at(book, at)),
     }
 }

@@ -1,4 +1,3 @@
-ghost use Rattle.semantics.specs.Policies.{Meaning};
 use crate::masked::Masked;
 use crate::view::View;
 use book::Book;

@@ -1,13 +1,14 @@
-use mathlib.Core.Path.{_≡_, ap, _∙_, subst}
-use Prim.Native.Nat.{_<_}
+use mathlib.Core.Path.{_≡_, subst}
+use mathlib.Core.List.{map}
 use native.Mathlib.Omega.{arith}
 use lib.ListN.{length}
 use Rattle.semantics.specs.Books.{columnsOf}
 use Rattle.semantics.specs.Views.{marks, placeOf}
+use Rattle.cells.specs.Cells.{cellValue}
 use Rattle.book.specs.Books.{bookModel}
 use Rattle.view.specs.Drawing.{Drawn}
 use Rattle.view.proofs.Books.{width-le, count-le, values-length}
-use Rattle.view.proofs.Drawing.{next-number, next-cell, drawn-row}
+use Rattle.view.proofs.Drawing.{mark-is, next-number, next-cell, drawn-row}
 use Rattle.view.proofs.draw.draw_row.Needs as need
 
 pub mask-masked-requires : need.mask-masked-requires
@@ -35,10 +36,12 @@ pub loop-column-again : need.loop-column-again
 loop-column-again g c =
     let a = c .args in
     let b = a .book .now in
+    let meaning = g .P·Policy .meaning (a .policy .now) in
     let l = values-length b (a .table) (a .row) (c .in-Some .values .now) (c .pre .fits .1 .1) (c .in-Some .ensures tt .1) in
-    next-cell b (marks (g .P·Policy .meaning (a .policy .now)) (a .broker) (bookModel b)) (c .loop-column .cells) (c .loop-column .numbers) (a .table) (a .row) (c .loop-column .column) (c .loop-column .inv) (c .pre .fits .1 .0) (c .pre .fits .1 .1) (omega arith)
+    let asked : c .mark-mark .result ≡ meaning (a .broker) (a .table) (map cellValue (c .in-Some .values .now)) (c .loop-column .column) = c .mark-mark .ensures in
+    next-cell b (marks meaning (a .broker) (bookModel b)) (c .loop-column .cells) (c .loop-column .numbers) (a .table) (a .row) (c .loop-column .column) (c .loop-column .inv) (c .pre .fits .1 .0) (c .pre .fits .1 .1) (omega arith)
     (c .mark-mark .result) (c .mask-masked .result) (c .put .last .cells) (c .mask-masked .last .numbers) (omega arith)
-    (c .mark-mark .ensures ∙ ap (λ vs. g .P·Policy .meaning (a .policy .now) (a .broker) (a .table) vs (c .loop-column .column)) (c .in-Some .ensures tt .1))
+    (mark-is meaning (a .broker) (bookModel b) (placeOf (a .table) (a .row) (c .loop-column .column)) (c .mark-mark .result) (map cellValue (c .in-Some .values .now)) asked (c .in-Some .ensures tt .1))
     (c .mask-masked .ensures .masks) (c .mask-masked .ensures .raised) (c .put .ensures)
 
 pub returns : need.returns

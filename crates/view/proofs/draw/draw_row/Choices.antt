@@ -1,5 +1,3 @@
-use mathlib.Core.Path.{_≡_}
-use lib.ListN.{length}
 use Rattle.semantics.specs.Views.{marks, placeOf}
 use Rattle.book.specs.Books.{bookModel}
 use Rattle.view.specs.Drawing.{Drawn}

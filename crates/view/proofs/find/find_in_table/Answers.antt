@@ -1,12 +1,11 @@
-use mathlib.Core.Path.{_≡_, sym, ap, _∙_, subst}
-use Prim.Native.Nat.{_<_, _≤_}
+use mathlib.Core.Path.{sym, ap, _∙_, subst}
+use Prim.Native.Nat.{_≤_}
 use native.Mathlib.Omega.{arith}
 use lib.ListN.{length}
-use Rattle.std.proofs.shelf.Ways.{tells}
-use Rattle.semantics.specs.Books.{columnsOf, rowsOf, columnAt}
+use Rattle.semantics.specs.Books.{columnAt}
 use Rattle.cells.specs.Cells.{cellValue}
 use Rattle.book.specs.Books.{bookModel}
-use Rattle.view.specs.Drawing.{placeAt, rowsBefore}
+use Rattle.view.specs.Drawing.{placeAt}
 use Rattle.view.proofs.Books.{width-le, count-le}
 use Rattle.view.proofs.Finding.{rows-before-le, table-hit, table-on, table-past, table-end}
 use Rattle.view.proofs.find.find_in_table.Needs as need

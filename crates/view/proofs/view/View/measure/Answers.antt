@@ -12,6 +12,7 @@ ghost-self c =
 pub returns : need.returns
 returns c =
     let b = c .args .book .now in
-    record
-      { seen = λ mark all. view-is mark (bookModel b) (c .args .self .now .cells) (c .widths-self .result) (c .row-counts-self .result) all (c .widths-self .ensures) (c .row-counts-self .ensures)
-      ; wide = widths-at b (c .widths-self .result) (c .widths-self .ensures) }
+    record {
+      seen = λ mark all. view-is mark (bookModel b) (c .args .self .now .cells) (c .widths-self .result) (c .row-counts-self .result) all (c .widths-self .ensures) (c .row-counts-self .ensures);
+      wide = widths-at b (c .widths-self .result) (c .widths-self .ensures);
+    }
