@@ -4,7 +4,6 @@ ghost use lib.ListN.{length, take, drop};
 ghost use Rattle.semantics.specs.Books.{columnsOf, rowsOf, limitOf};
 ghost use Rattle.book.specs.Books.{bookModel, RowAt};
 ghost use Rattle.book.specs.Layout.{rowStart};
-
 use crate::book::Book;
 use crate::book::Rows;
 use cells::Cell;
@@ -34,14 +33,22 @@ impl Book<'_> {
     pub fn columns(&self, table: usize) -> &[Column]
         ensures { λ r. ⌜ now r ≡ columnsOf (bookModel (now (self .entry))) table ⌝ }
     {
-        if table < 4 { self.tables[table].listed() } else { &[] }
+        if table < 4 {
+            self.tables[table].listed()
+        } else {
+            &[]
+        }
     }
 
     /// How many rows a table has, none where there is no such table.
     pub fn row_count(&self, table: usize) -> usize
         ensures { λ r. ⌜ r ≡ length (rowsOf (bookModel (now (self .entry))) table) ⌝ }
     {
-        if table < 4 { self.rows.counts[table] } else { 0 }
+        if table < 4 {
+            self.rows.counts[table]
+        } else {
+            0
+        }
     }
 
     /// The cells of a row, where there is one of this number.

@@ -5,3 +5,10 @@ pub mod Lists
 pub mod Values
 pub mod Drafts
 pub mod Books
+pub mod Operators
+pub mod Bytes
+pub mod Walks
+pub mod Conditions
+pub mod Queries
+pub mod Records
+pub mod Reading
