@@ -2,3 +2,8 @@ pub mod Every
 pub mod Lawful
 pub mod Agreed
 pub mod Same
+pub mod Outcomes
+pub mod Pieces
+pub mod Bytes
+pub mod Walking
+pub mod Terms
