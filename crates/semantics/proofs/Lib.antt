@@ -7,3 +7,4 @@ pub mod Pieces
 pub mod Bytes
 pub mod Walking
 pub mod Terms
+pub mod Trees
