@@ -1,0 +1,3 @@
+pub mod Firsts
+pub mod Terms
+pub mod Saying

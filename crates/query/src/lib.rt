@@ -1,0 +1,15 @@
+//! Reading a query: its records in place, the questions put to it, and the plan that passes them.
+
+mod condition;
+mod first;
+mod kinds;
+mod plan;
+mod record;
+mod term;
+
+pub use kinds::Kinds;
+pub use plan::Plan;
+pub use plan::Position;
+pub use record::Record;
+pub use term::Term;
+pub use term::first_term;
