@@ -1,3 +1,4 @@
 pub mod Firsts
 pub mod Terms
 pub mod Saying
+pub mod Kinds

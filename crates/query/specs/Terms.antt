@@ -1,5 +1,6 @@
 -- What the code reads from condition records.
 use mathlib.Core.Path.{_≡_}
+use mathlib.Core.Bool.{Bool, true}
 use mathlib.Core.List.{List}
 use Prim.Native.Nat.{ℕ}
 use denote.Ref.{RefT, now}
@@ -23,6 +24,13 @@ termOf (ByPrefix op l ds) = conditions.comparing (conditions.byPrefix op l (now 
 termOf And = conditions.conjoining
 termOf Or = conditions.disjoining
 termOf Not = conditions.negating
+
+-- Does the comparison of a term pass? A term that only joins conditions does.
+abbrev pub passes : (conditions.Comparison → Bool) → conditions.Term → Bool
+passes p (conditions.comparing k) = p k
+passes p conditions.conjoining = true
+passes p conditions.disjoining = true
+passes p conditions.negating = true
 
 -- The code has read this term, or it is refused with `e`.
 abbrev pub TermIs : Refusal → Option Term → Outcome conditions.Term → Type 0

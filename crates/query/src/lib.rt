@@ -1,9 +1,11 @@
 //! Reading a query: its records in place, the questions put to it, and the plan that passes them.
 
+mod columns;
 mod condition;
 mod first;
 mod kinds;
 mod plan;
+mod reader;
 mod record;
 mod term;
 

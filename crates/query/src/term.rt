@@ -1,13 +1,20 @@
 ghost use mathlib.Core.Path.{_≡_};
+ghost use mathlib.Core.Bool.{_&&_};
 ghost use mathlib.Core.List.{List};
 ghost use Prim.Native.Nat.{ℕ, _<_};
 ghost use lib.ListN.{length};
 ghost use Rattle.semantics.specs.declared.refusal.Refusal.{Refusal};
-ghost use Rattle.semantics.specs.Conditions.{Condition};
+ghost use Rattle.semantics.specs.Conditions.{Condition, namedComparison, fittingComparison};
+ghost use Rattle.semantics.specs.Kinds.{sameKind};
+ghost use Rattle.semantics.specs.Operators.{takes};
 ghost use Rattle.semantics.specs.Reading.{emptyForm, columnSide, numberSide, prefixSide, comparisonForm, termForm, combined};
-ghost use Rattle.query.specs.Terms.{termOf, TermIs, firstTerm, FirstTermIs, DepthIs};
+ghost use Rattle.query.specs.Kinds.{kindsIn};
+ghost use Rattle.query.specs.Terms.{passes, termOf, TermIs, firstTerm, FirstTermIs, DepthIs};
 use crate::first::first_record;
+use crate::kinds::Kinds;
 use cells::all_digits;
+use semantics::Kind;
+use semantics::KindPartialEq;
 use semantics::Operator;
 
 /// What a condition record says: a comparison of a column with another, with a number or with the
@@ -101,7 +108,52 @@ pub fn first_term(bytes: &[u8]) -> Option<(Term<'_>, &[u8])>
     Some((term, first.rest))
 }
 
+/// Whether the kind takes the operator.
+fn takes(kind: Kind, operator: Operator) -> bool
+    ensures { λ r. ⌜ r ≡ takes kind operator ⌝ }
+{
+    match operator {
+        Operator::Equal => true,
+        Operator::Unequal => true,
+        Operator::Less => kind == Kind::Number,
+        Operator::AtMost => kind == Kind::Number,
+        Operator::Covers => kind == Kind::Prefix,
+        Operator::Shorter => kind == Kind::Prefix,
+    }
+}
+
+/// Whether both sides are of one kind, which takes the operator.
+fn compares(operator: Operator, left: Kind, right: Kind) -> bool
+    ensures { λ r. ⌜ r ≡ (takes left operator && sameKind left right) ⌝ }
+{
+    takes(left, operator) && left == right
+}
+
 impl Term<'_> {
+    /// Whether the columns that the term names exist in a relation of these kinds.
+    pub(crate) fn is_named(self, kinds: &Kinds) -> bool
+        ensures { λ r. ⌜ r ≡ passes (namedComparison (kindsIn (now (kinds .entry)))) (termOf (self .entry)) ⌝ }
+    {
+        match self {
+            Term::ByColumn(_, left, right) => kinds.has(left) && kinds.has(right),
+            Term::ByNumber(_, left, _) => kinds.has(left),
+            Term::ByPrefix(_, left, _) => kinds.has(left),
+            _ => true,
+        }
+    }
+
+    /// Whether the sides that the term compares are of one kind, which takes its operator.
+    pub(crate) fn is_fitting(self, kinds: &Kinds) -> bool
+        ensures { λ r. ⌜ r ≡ passes (fittingComparison (kindsIn (now (kinds .entry)))) (termOf (self .entry)) ⌝ }
+    {
+        match self {
+            Term::ByColumn(operator, left, right) => compares(operator, kinds.at(left), kinds.at(right)),
+            Term::ByNumber(operator, left, _) => compares(operator, kinds.at(left), Kind::Number),
+            Term::ByPrefix(operator, left, _) => compares(operator, kinds.at(left), Kind::Prefix),
+            _ => true,
+        }
+    }
+
     /// How many conditions are on the stack after the term, if there are enough before it.
     pub(crate) fn depth_after(self, depth: usize) -> Option<usize>
         requires { ⌜ depth < 1000 ⌝ }
