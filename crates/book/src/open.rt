@@ -4,7 +4,6 @@ ghost use Rattle.cells.specs.declared.cell.Cell.the-variants.{Number};
 ghost use Rattle.semantics.specs.Books.{opened};
 ghost use Rattle.book.specs.Books.{bookModel, memory, UnusedAreZero};
 ghost use Rattle.book.specs.Columns.{columnsIn};
-
 use crate::book::Book;
 use crate::book::Rows;
 use crate::draft::Draft;
@@ -18,7 +17,10 @@ impl Draft {
         ensures same { λ r. ⌜ memory r ≡ now (cells .entry) ⌝ }
     {
         let Draft { tables } = self;
-        let rows = Rows { counts: [0; 4], cells };
+        let rows = Rows {
+            counts: [0; 4],
+            cells,
+        };
         Book { tables, rows }
     }
 

@@ -14,3 +14,9 @@ pub mod Orderly
 pub mod Faithful
 pub mod Some
 pub mod Drawing
+pub mod Outcomes
+pub mod Pieces
+pub mod Bytes
+pub mod Walking
+pub mod Terms
+pub mod Trees

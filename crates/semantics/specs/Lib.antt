@@ -14,3 +14,10 @@ pub mod Faithful
 pub mod Wider
 pub mod Valuations
 pub mod Orderly
+pub mod Operators
+pub mod Bytes
+pub mod Walks
+pub mod Conditions
+pub mod Queries
+pub mod Records
+pub mod Reading
