@@ -21,3 +21,6 @@ pub mod Conditions
 pub mod Queries
 pub mod Records
 pub mod Reading
+pub mod Compatible
+pub mod Truths
+pub mod Answers
