@@ -1,50 +1,39 @@
--- Which rows of a view may stand for the same row.
-use mathlib.Core.Bool.{Bool, true, false, cond, _&&_, not}
+-- Rows of a view that may be the same row.
+use mathlib.Core.Bool.{Bool, true, false, cond, not, _&&_}
 use mathlib.Core.List.{List, [], _∷_, _++_}
-use Prim.Native.Nat.{ℕ}
 use lib.Dec.{eqb}
+use lib.ListN.{length}
 use Rattle.semantics.specs.Lists.{every}
 use Rattle.semantics.specs.Values.{sameValue}
 use Rattle.semantics.specs.Views.{Masked, value, variable, pseudonym}
 use Rattle.semantics.specs.Wider.{sameMasked}
 
--- Can the two cells be made the same? Two values only when they are; a variable or pseudonym can become any cell.
-abbrev pub fits : Masked → Masked → Bool
-fits (value v) (value w) = sameValue v w
-fits (value v) (variable t r c) = true
-fits (value v) (pseudonym d n) = true
-fits (variable t r c) b = true
-fits (pseudonym d n) b = true
+-- Can the two cells never be the same? Different values cannot, nor can different pseudonyms of one domain.
+abbrev pub differ : Masked → Masked → Bool
+differ (value v) (value w) = not (sameValue v w)
+differ (value v) (variable t r c) = false
+differ (value v) (pseudonym d n) = false
+differ (variable t r c) b = false
+differ (pseudonym d n) (value w) = false
+differ (pseudonym d n) (variable t r c) = false
+differ (pseudonym d n) (pseudonym e k) = eqb d e && not (eqb n k)
 
--- The cell `c` with `b` in the place of `a`.
-abbrev pub replaced : Masked → Masked → Masked → Masked
-replaced a b c = cond (sameMasked c a) b c
+-- Each group of cells goes by one of its cells. Once the groups that go by `a` and `b` are one, it goes by `b`.
+abbrev pub united : Masked → Masked → Masked → Masked
+united a b group = cond (sameMasked group a) b group
 
--- The cell `c` once the first two cells are held to be the same: a symbol among them is replaced by the other cell.
-abbrev pub joined : Masked → Masked → Masked → Masked
-joined (value v) (value w) c = c
-joined (value v) (variable t r e) c = replaced (variable t r e) (value v) c
-joined (value v) (pseudonym d n) c = replaced (pseudonym d n) (value v) c
-joined (variable t r e) b c = replaced (variable t r e) b c
-joined (pseudonym d n) b c = replaced (pseudonym d n) b c
+-- What each cell's group goes by, once the two cells of each column are in one group, from the groups before.
+abbrev pub grouped : (Masked → Masked) → List Masked → List Masked → Masked → Masked
+grouped group [] s = group
+grouped group (a ∷ r) [] = group
+grouped group (a ∷ r) (b ∷ s) = grouped (λ c. united (group a) (group b) (group c)) r s
 
--- Are two cells, if they are different pseudonyms of one domain, still different under a substitution?
-abbrev pub keptApart : (Masked → Masked) → Masked → Masked → Bool
-keptApart with (value v) b = true
-keptApart with (variable t r c) b = true
-keptApart with (pseudonym d n) (value w) = true
-keptApart with (pseudonym d n) (variable t r c) = true
-keptApart with (pseudonym d n) (pseudonym e k) =
-    not (eqb d e && not (eqb n k) && sameMasked (with (pseudonym d n)) (with (pseudonym e k)))
+-- The groups of two rows. At first each cell is its own group.
+abbrev pub groupOf : List Masked → List Masked → Masked → Masked
+groupOf r s = grouped (λ a. a) r s
 
--- Column by column the cells are made the same, under a substitution that grows;
--- at the end the pseudonyms among all cells of the rows must be apart.
-abbrev pub solved : (Masked → Masked) → List Masked → List Masked → List Masked → Bool
-solved with all [] [] = every (λ a. every (keptApart with a) all) all
-solved with all [] (b ∷ s) = false
-solved with all (a ∷ r) [] = false
-solved with all (a ∷ r) (b ∷ s) = fits (with a) (with b) && solved (λ c. joined (with a) (with b) (with c)) all r s
-
--- Can the two rows be made the same row, with different pseudonyms of a domain kept different?
+-- May the two rows be the same row? They are equally long, and no group has two cells that differ.
 abbrev pub compatible : List Masked → List Masked → Bool
-compatible r s = solved (λ a. a) (r ++ s) r s
+compatible r s =
+    eqb (length r) (length s)
+    && every (λ a. every (λ b. not (differ a b && sameMasked (groupOf r s a) (groupOf r s b))) (r ++ s)) (r ++ s)

@@ -13,6 +13,7 @@ pub mod Indistinguishable
 pub mod Faithful
 pub mod Wider
 pub mod Valuations
+pub mod Compatible
 pub mod Orderly
 pub mod Operators
 pub mod Bytes
@@ -21,6 +22,5 @@ pub mod Conditions
 pub mod Queries
 pub mod Records
 pub mod Reading
-pub mod Compatible
 pub mod Truths
 pub mod Answers
