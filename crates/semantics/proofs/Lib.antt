@@ -20,3 +20,9 @@ pub mod Bytes
 pub mod Walking
 pub mod Terms
 pub mod Trees
+pub mod Compatible
+pub mod Rows
+pub mod Truths
+pub mod LowHigh
+pub mod Refinement
+pub mod Exact
