@@ -20,3 +20,4 @@ pub mod Bytes
 pub mod Walking
 pub mod Terms
 pub mod Trees
+pub mod Compatible
