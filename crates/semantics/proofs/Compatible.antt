@@ -32,6 +32,20 @@ module _ {A : Type 0} (p : A → Bool) where
   every-members [] h = refl
   every-members (x ∷ xs) h = and-from (p x) (every p xs) (h x (List·Memᴰ·head refl)) (every-members xs (λ a m. h a (List·Memᴰ·tail m)))
 
+-- rows that are the same cell by cell
+pub rows-same : (r s : List Masked) → pairwise sameMasked r s ≡ true → r ≡ s
+rows-same [] [] e = refl
+rows-same [] (b ∷ s) e = absurd (false≢true e)
+rows-same (a ∷ r) [] e = absurd (false≢true e)
+rows-same (a ∷ r) (b ∷ s) e = let h = and-parts (sameMasked a b) (pairwise sameMasked r s) e in ap₂ _∷_ (same-masked a b (h .0)) (rows-same r s (h .1))
+
+row-self : (r : List Masked) → pairwise sameMasked r r ≡ true
+row-self [] = refl
+row-self (a ∷ r) = and-from (sameMasked a a) (pairwise sameMasked r r) (masked-self a) (row-self r)
+
+pub same-rows : (r s : List Masked) → r ≡ s → pairwise sameMasked r s ≡ true
+same-rows r s e = subst (λ x. pairwise sameMasked r x ≡ true) e (row-self r)
+
 -- the groups become one
 united-first : (a b : Masked) → united a b a ≡ b
 united-first a b = cond-true (sameMasked a a) b a (masked-self a)
@@ -137,3 +151,80 @@ differ-same a b e = subst (λ x. differ a x ≡ false) e (differ-self a)
 
 pub compatible-self : (r : List Masked) → compatible r r ≡ true
 compatible-self r = compatible-by (λ a. a) r r refl (λ a b m n e. differ-same a b e)
+
+-- Rows of values alone are compatible when they are the same.
+pub data IsValue : Masked → Type 0 where
+  is-value : {v : Value} → IsValue (value v)
+
+values-alike : {a b : Masked} → IsValue a → IsValue b → differ a b ≡ false → a ≡ b
+values-alike (is-value {v = v}) (is-value {v = w}) e = ap value (same-value v w (not-false (sameValue v w) e))
+
+columns-same : (group : Masked → Masked) (r s : List Masked) → map group r ≡ map group s
+    → ((a b : Masked) → List·Memᴰ a r → List·Memᴰ b s → group a ≡ group b → a ≡ b) → r ≡ s
+columns-same group [] [] e k = refl
+columns-same group [] (b ∷ s) e k = absurd (nil≢cons e)
+columns-same group (a ∷ r) [] e k = absurd (cons≢nil e)
+columns-same group (a ∷ r) (b ∷ s) e k =
+    ap₂ _∷_ (k a b (List·Memᴰ·head refl) (List·Memᴰ·head refl) (head-eq-of-cons-eq e))
+    (columns-same group r s (tail-eq-of-cons-eq e) (λ x y m n. k x y (List·Memᴰ·tail m) (List·Memᴰ·tail n)))
+
+module _ (r s : List Masked) (plain-left : (a : Masked) → List·Memᴰ a r → IsValue a) (plain-right : (a : Masked) → List·Memᴰ a s → IsValue a) where
+  pub compatible-values-same : compatible r s ≡ true → r ≡ s
+  compatible-values-same e =
+      let k = compatible-consistent r s e in
+      columns-same (groupOf r s) r s (group-joins r s (k .long)) (λ a b m n g.
+      values-alike (plain-left a m) (plain-right b n) (k .alike a b (Memᴰ·append-left s m) (Memᴰ·append-right r n) g))
+
+  pub compatible-values : compatible r s ≡ pairwise sameMasked r s
+  compatible-values = go (pairwise sameMasked r s) refl
+    where
+      go : (t : Bool) → pairwise sameMasked r s ≡ t → compatible r s ≡ t
+      go true e = subst (λ x. compatible r x ≡ true) (rows-same r s e) (compatible-self r)
+      go false e = is-false (compatible r s) (λ t. both-ways (pairwise sameMasked r s) e (same-rows r s (compatible-values-same t)))
+
+-- Rows that a faithful change makes compatible are.
+module _ (tables : List (List (List Masked))) (change : Masked → Masked) (faithful : Faithful tables change) where
+  -- cells that differ still do
+  keeps-pseudonyms : (d n k : ℕ) → StandsIn tables (pseudonym d n) → StandsIn tables (pseudonym d k) → (n ≡ k → ⊥) → differ (change (pseudonym d n)) (change (pseudonym d k)) ≡ true
+  keeps-pseudonyms d n k p q ne = go (faithful .together d)
+    where
+      go : ((n : ℕ) → StandsIn tables (pseudonym d n) → (k : ℕ) × (change (pseudonym d n) ≡ pseudonym d k))
+          ⊎ ((n : ℕ) → StandsIn tables (pseudonym d n) → (v : Value) × (change (pseudonym d n) ≡ value v))
+          → differ (change (pseudonym d n)) (change (pseudonym d k)) ≡ true
+      go (inl h) =
+          rw (h n p .1, h k q .1)
+          (and-from (eqb d d) (not (eqb (h n p .0) (h k q .0))) (eq-eqb d d refl)
+          (not-from-false _ (ne-eqb _ _ (λ e. ne (faithful .apart d n k p q (h n p .1 ∙ ap (pseudonym d) e ∙ sym (h k q .1)))))))
+      go (inr h) =
+          rw (h n p .1, h k q .1)
+          (not-from-false (sameValue (h n p .0) (h k q .0)) (is-false _ (λ e.
+          ne (faithful .apart d n k p q (h n p .1 ∙ ap value (same-value _ _ e) ∙ sym (h k q .1))))))
+
+  keeps-differ : (a b : Masked) → StandsIn tables a → StandsIn tables b → differ a b ≡ true → differ (change a) (change b) ≡ true
+  keeps-differ (value v) (value w) p q e = rw (faithful .valuesStay v, faithful .valuesStay w) e
+  keeps-differ (value v) (variable t r c) p q e = absurd (false≢true e)
+  keeps-differ (value v) (pseudonym d n) p q e = absurd (false≢true e)
+  keeps-differ (variable t r c) b p q e = absurd (false≢true e)
+  keeps-differ (pseudonym d n) (value w) p q e = absurd (false≢true e)
+  keeps-differ (pseudonym d n) (variable t r c) p q e = absurd (false≢true e)
+  keeps-differ (pseudonym d n) (pseudonym f k) p q e =
+      let h = and-parts (eqb d f) (not (eqb n k)) e in
+      let same : d ≡ f = eqb-true d f (h .0) in
+      subst (λ x. differ (change (pseudonym d n)) (change (pseudonym x k)) ≡ true) same
+      (keeps-pseudonyms d n k p (subst (λ x. StandsIn tables (pseudonym x k)) (sym same) q) (eqb-false n k (not-true (eqb n k) (h .1))))
+
+  pub compatible-before : (r s : List Masked) → ((a : Masked) → List·Memᴰ a r → StandsIn tables a) → ((a : Masked) → List·Memᴰ a s → StandsIn tables a)
+      → compatible (map change r) (map change s) ≡ true → compatible r s ≡ true
+  compatible-before r s p q e =
+      let k = compatible-consistent (map change r) (map change s) e in
+      compatible-by (λ a. groupOf (map change r) (map change s) (change a)) r s
+      (sym (map-map (groupOf (map change r) (map change s)) change r) ∙ group-joins (map change r) (map change s) (k .long) ∙ map-map (groupOf (map change r) (map change s)) change s)
+      (λ a b m n g. is-false (differ a b) (λ d.
+      both-ways (differ (change a) (change b)) (k .alike (change a) (change b) (moved m) (moved n) g) (keeps-differ a b (stands m) (stands n) d)))
+    where
+      stands : {a : Masked} → List·Memᴰ a (r ++ s) → StandsIn tables a
+      stands {a} m = let h : List·Memᴰ a r ⊎ List·Memᴰ a s = List·Memᴰ·append-cases r m in elim h [ inl k ↦ p a k | inr k ↦ q a k ]
+
+      moved : {a : Masked} → List·Memᴰ a (r ++ s) → List·Memᴰ (change a) (map change r ++ map change s)
+      moved {a} m = let h : List·Memᴰ a r ⊎ List·Memᴰ a s = List·Memᴰ·append-cases r m in
+          elim h [ inl k ↦ Memᴰ·append-left (map change s) (mem-map change k) | inr k ↦ Memᴰ·append-right (map change r) (mem-map change k) ]
