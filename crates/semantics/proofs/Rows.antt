@@ -29,9 +29,9 @@ row-same r s e = subst (λ x. sameRow r x ≡ true) e (row-self r)
 
 -- a test that no element passes
 module _ {A : Type 0} (p : A → Bool) where
-  none : (xs : List A) → ((a : A) → List·Memᴰ a xs → p a ≡ true → ⊥) → not (some p xs) ≡ true
-  none [] h = refl
-  none (x ∷ xs) h = go (p x) refl (none xs (λ a m. h a (List·Memᴰ·tail m)))
+  pub not-some : (xs : List A) → ((a : A) → List·Memᴰ a xs → p a ≡ true → ⊥) → not (some p xs) ≡ true
+  not-some [] h = refl
+  not-some (x ∷ xs) h = go (p x) refl (not-some xs (λ a m. h a (List·Memᴰ·tail m)))
     where
       go : (b : Bool) → p x ≡ b → not (some p xs) ≡ true → not (b || some p xs) ≡ true
       go true e ih = absurd (h x (List·Memᴰ·head refl) e)
@@ -41,11 +41,17 @@ module _ {A : Type 0} (p : A → Bool) where
   fails-all e (List·Memᴰ·head {x = x} {xs = xs} h) = ap p h ∙ or-parts (p x) (some p xs) e .0
   fails-all e (List·Memᴰ·tail {x = x} {xs = xs} m) = fails-all (or-parts (p x) (some p xs) e .1) m
 
-  pub not-some : (xs : List A) → ((a : A) → List·Memᴰ a xs → p a ≡ true → ⊥) → not (some p xs) ≡ true
-  not-some = none
-
   pub not-some-back : (xs : List A) → not (some p xs) ≡ true → (a : A) → List·Memᴰ a xs → p a ≡ true → ⊥
   not-some-back xs e a m h = both-ways (p a) (fails-all (not-true (some p xs) e) m) h
+
+  pub some-back : (xs : List A) → some p xs ≡ true → (a : A) × List·Memᴰ a xs × (p a ≡ true)
+  some-back [] e = absurd (false≢true e)
+  some-back (x ∷ xs) e = go (p x) refl e (some-back xs)
+    where
+      go : (b : Bool) → p x ≡ b → (b || some p xs) ≡ true → (some p xs ≡ true → (a : A) × List·Memᴰ a xs × (p a ≡ true))
+          → (a : A) × List·Memᴰ a (x ∷ xs) × (p a ≡ true)
+      go true f e ih = (x, List·Memᴰ·head refl, f)
+      go false f e ih = let h = ih e in (h .0, List·Memᴰ·tail (h .1), h .2)
 
   pub some-agree : (q : A → Bool) (xs : List A) → ((a : A) → List·Memᴰ a xs → p a ≡ q a) → some p xs ≡ some q xs
   some-agree q [] h = refl
