@@ -2,3 +2,5 @@ pub mod EqualViews
 pub mod Translation
 pub mod OwnValues
 pub mod SeenKinds
+pub mod Bounded
+pub mod Samples

@@ -3,3 +3,5 @@ pub mod Wider
 pub mod Valuations
 pub mod Orderly
 pub mod Kinds
+pub mod Answers
+pub mod Sample
