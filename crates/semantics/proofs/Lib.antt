@@ -26,3 +26,4 @@ pub mod Truths
 pub mod LowHigh
 pub mod Refinement
 pub mod Exact
+pub mod Repeats

@@ -6,6 +6,7 @@ use mathlib.Core.Logic.{_⊎_, inl, inr}
 use Prim.Native.Nat.{ℕ}
 use lib.Dec.{eqb}
 use lib.ListN.{getD, List·getD-map}
+use Rattle.std.proofs.shelf.Lists.{map-append}
 use Rattle.std.proofs.shelf.Tests.{and-parts, and-from, eqb-true, eqb-false, eq-eqb, ne-eqb, not-true, both-ways, false≢true}
 use Rattle.semantics.specs.declared.operator.Operator.{Operator}
 use Rattle.semantics.specs.Answers.{sameRow, withoutRepeats, picked, paired, low, high}
@@ -26,10 +27,6 @@ use Rattle.semantics.proofs.Member.{mem-map, mem-map-back, mem-kept, mem-kept-
 use Rattle.semantics.proofs.Rows.{same-row, row-same, not-some, not-some-back, mem-without, mem-without-back, mem-paired, mem-paired-back}
 use Rattle.semantics.proofs.Truths.{Sharper, sharper-both, sharper-either, sharper-opposite, sharper-true, sharper-may, sharper-self, sharper-cond, itself-sharper, apart-values, apart-pseudonyms}
 use Rattle.semantics.proofs.Values.{value-same}
-
-map-append : {A B : Type 0} (f : A → B) (xs ys : List A) → map f (xs ++ ys) ≡ map f xs ++ map f ys
-map-append f [] ys = refl
-map-append f (x ∷ xs) ys = ap (λ l. f x ∷ l) (map-append f xs ys)
 
 is-false : (b : Bool) → (b ≡ true → ⊥) → b ≡ false
 is-false true h = absurd (h refl)
