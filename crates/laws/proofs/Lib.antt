@@ -4,3 +4,4 @@ pub mod OwnValues
 pub mod SeenKinds
 pub mod Bounded
 pub mod Samples
+pub mod NoRepeats

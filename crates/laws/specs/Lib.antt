@@ -4,4 +4,5 @@ pub mod Valuations
 pub mod Orderly
 pub mod Kinds
 pub mod Answers
+pub mod Repeats
 pub mod Sample
