@@ -2,3 +2,6 @@ pub mod EqualViews
 pub mod Translation
 pub mod OwnValues
 pub mod SeenKinds
+pub mod Bounded
+pub mod Samples
+pub mod NoRepeats

@@ -3,3 +3,6 @@ pub mod Wider
 pub mod Valuations
 pub mod Orderly
 pub mod Kinds
+pub mod Answers
+pub mod Repeats
+pub mod Sample

@@ -1,14 +1,26 @@
 //! The laws of the definitions in `semantics`, each on the contract of a function, so that the check asks for its proof.
 
+mod answers;
 mod indistinguishable;
 mod kinds;
 mod orderly;
+mod repeats;
+mod sample;
 mod valuations;
 mod wider;
 
+pub use answers::answers_bound_the_unmasked;
+pub use answers::faithful_changes_sharpen;
+pub use answers::indistinguishable_books_give_same_answers;
+pub use answers::low_rows_are_high_rows;
+pub use answers::values_give_one_answer;
+pub use answers::wider_policies_sharpen;
 pub use indistinguishable::indistinguishable_books_have_equal_views;
 pub use kinds::views_keep_kinds;
 pub use orderly::calls_keep_books_orderly;
+pub use repeats::answers_have_no_repeats;
+pub use sample::sample_answers;
+pub use sample::sample_comparisons;
 pub use valuations::lawful_valuations_are_faithful;
 pub use valuations::own_values_are_a_lawful_valuation;
 pub use wider::translation_gives_the_wider_view;

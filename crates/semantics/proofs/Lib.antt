@@ -14,3 +14,16 @@ pub mod Orderly
 pub mod Faithful
 pub mod Some
 pub mod Drawing
+pub mod Outcomes
+pub mod Pieces
+pub mod Bytes
+pub mod Walking
+pub mod Terms
+pub mod Trees
+pub mod Compatible
+pub mod Rows
+pub mod Truths
+pub mod LowHigh
+pub mod Refinement
+pub mod Exact
+pub mod Repeats

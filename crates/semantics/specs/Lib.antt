@@ -13,4 +13,14 @@ pub mod Indistinguishable
 pub mod Faithful
 pub mod Wider
 pub mod Valuations
+pub mod Compatible
 pub mod Orderly
+pub mod Operators
+pub mod Bytes
+pub mod Walks
+pub mod Conditions
+pub mod Queries
+pub mod Records
+pub mod Reading
+pub mod Truths
+pub mod Answers

@@ -2,6 +2,7 @@
 
 mod kind;
 mod mark;
+mod operator;
 mod refusal;
 mod rule;
 
@@ -13,6 +14,9 @@ pub use kind::KindPartialEq;
 pub use mark::Mark;
 pub use mark::MarkDebug;
 pub use mark::MarkPartialEq;
+pub use operator::Operator;
+pub use operator::OperatorDebug;
+pub use operator::OperatorPartialEq;
 pub use refusal::Refusal;
 pub use refusal::RefusalDebug;
 pub use rule::Consent;

@@ -1,0 +1,11 @@
+ghost use Rattle.laws.specs.Sample.{SampleAnswers, SampleComparisons};
+
+/// Answers over a book of three tariffs are the ones worked by hand.
+pub fn sample_answers()
+    ensures { λ _. ⌜ SampleAnswers ⌝ }
+{}
+
+/// Comparisons and compatible rows are the ones worked by hand.
+pub fn sample_comparisons()
+    ensures { λ _. ⌜ SampleComparisons ⌝ }
+{}
