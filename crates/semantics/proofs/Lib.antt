@@ -21,3 +21,5 @@ pub mod Walking
 pub mod Terms
 pub mod Trees
 pub mod Compatible
+pub mod Fresh
+pub mod Joined
