@@ -2,3 +2,4 @@ pub mod EqualViews
 pub mod Translation
 pub mod OwnValues
 pub mod SeenKinds
+pub mod Joinable

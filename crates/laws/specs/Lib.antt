@@ -3,3 +3,4 @@ pub mod Wider
 pub mod Valuations
 pub mod Orderly
 pub mod Kinds
+pub mod Compatible

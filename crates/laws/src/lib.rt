@@ -1,11 +1,15 @@
 //! The laws of the definitions in `semantics`, each on the contract of a function, so that the check asks for its proof.
 
+mod compatible;
 mod indistinguishable;
 mod kinds;
 mod orderly;
 mod valuations;
 mod wider;
 
+pub use compatible::compatible_examples;
+pub use compatible::compatible_in_every_book;
+pub use compatible::compatible_means_joinable;
 pub use indistinguishable::indistinguishable_books_have_equal_views;
 pub use kinds::views_keep_kinds;
 pub use orderly::calls_keep_books_orderly;
