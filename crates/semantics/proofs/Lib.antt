@@ -23,3 +23,4 @@ pub mod Trees
 pub mod Compatible
 pub mod Fresh
 pub mod Joined
+pub mod Small
