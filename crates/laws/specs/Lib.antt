@@ -4,3 +4,4 @@ pub mod Valuations
 pub mod Orderly
 pub mod Kinds
 pub mod Compatible
+pub mod Small

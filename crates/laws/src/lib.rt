@@ -4,6 +4,7 @@ mod compatible;
 mod indistinguishable;
 mod kinds;
 mod orderly;
+mod small;
 mod valuations;
 mod wider;
 
@@ -13,6 +14,7 @@ pub use compatible::compatible_means_joinable;
 pub use indistinguishable::indistinguishable_books_have_equal_views;
 pub use kinds::views_keep_kinds;
 pub use orderly::calls_keep_books_orderly;
+pub use small::calls_keep_books_small;
 pub use valuations::lawful_valuations_are_faithful;
 pub use valuations::own_values_are_a_lawful_valuation;
 pub use wider::translation_gives_the_wider_view;
