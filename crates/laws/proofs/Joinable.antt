@@ -1,8 +1,8 @@
 -- Compatible rows are those that a lawful valuation makes the same, in the view of every book.
-use mathlib.Core.Path.{_≡_, refl, sym, ap, subst, _∙_}
-use mathlib.Core.Bool.{Bool, true, false}
-use mathlib.Core.List.{List, [], _∷_, _++_, map, List·Memᴰ, List·Memᴰ·head, List·Memᴰ·tail}
-use Prim.Native.Nat.{ℕ, zero, suc, _+_, _<_, _≤_}
+use mathlib.Core.Path.{_≡_, refl, sym, subst}
+use mathlib.Core.Bool.{true}
+use mathlib.Core.List.{List, [], _∷_, _++_, List·Memᴰ, List·Memᴰ·head, List·Memᴰ·tail}
+use Prim.Native.Nat.{ℕ, zero, suc, _+_, _≤_}
 use native.Mathlib.Omega.{arith}
 use lib.Dec.{leb}
 use lib.ListN.{length}
@@ -14,8 +14,8 @@ use Rattle.semantics.specs.declared.kind.Kind.{Kind}
 use Rattle.semantics.specs.declared.kind.Kind.the-variants.{Number, Prefix}
 use Rattle.semantics.specs.declared.mark.Mark.{Mark}
 use Rattle.semantics.specs.Books.{Model, columnsOf, rowsOf, columnAt}
-use Rattle.semantics.specs.Compatible.{compatible, cellsOf, fewCells, properCell}
-use Rattle.semantics.specs.Lists.{every, tabled}
+use Rattle.semantics.specs.Compatible.{cellsOf, fewCells, properCell}
+use Rattle.semantics.specs.Lists.{every}
 use Rattle.semantics.specs.Orderly.{Orderly}
 use Rattle.semantics.specs.Small.{Small}
 use Rattle.semantics.specs.Standing.{StandsIn, HasCell}

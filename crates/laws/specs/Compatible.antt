@@ -1,6 +1,6 @@
 -- Which rows of a view may be the same row.
 use mathlib.Core.Path.{_≡_}
-use mathlib.Core.Bool.{Bool, true, false}
+use mathlib.Core.Bool.{true, false}
 use mathlib.Core.List.{List, [], _∷_}
 use mathlib.Core.Logic.{_↔_}
 use Rattle.semantics.specs.declared.kind.Column.{Column}
