@@ -21,6 +21,13 @@ pub use orderly::calls_keep_books_orderly;
 pub use repeats::answers_have_no_repeats;
 pub use sample::sample_answers;
 pub use sample::sample_comparisons;
+mod compatible;
+mod small;
+
+pub use compatible::compatible_examples;
+pub use compatible::compatible_in_every_book;
+pub use compatible::compatible_means_joinable;
+pub use small::calls_keep_books_small;
 pub use valuations::lawful_valuations_are_faithful;
 pub use valuations::own_values_are_a_lawful_valuation;
 pub use wider::translation_gives_the_wider_view;

@@ -27,3 +27,6 @@ pub mod LowHigh
 pub mod Refinement
 pub mod Exact
 pub mod Repeats
+pub mod Fresh
+pub mod Joined
+pub mod Small
