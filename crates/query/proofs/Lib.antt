@@ -5,3 +5,4 @@ pub mod Steps
 pub mod Reading
 pub mod Widths
 pub mod Going
+pub mod Laying

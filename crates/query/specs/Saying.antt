@@ -2,9 +2,10 @@
 use mathlib.Core.Path.{_≡_}
 use mathlib.Core.Bool.{Bool, true, false, _&&_}
 use mathlib.Core.List.{List}
-use Prim.Native.Nat.{ℕ}
+use Prim.Native.Nat.{ℕ, _≤_}
 use denote.Ref.{RefT, now}
 use lib.Dec.{leb}
+use lib.ListN.{length}
 use Rattle.std.specs.declared.result.Result.{Result}
 use Rattle.std.specs.declared.result.Result.the-variants.{Ok, Err}
 use Rattle.semantics.specs.declared.refusal.Refusal.{Refusal}
@@ -44,7 +45,7 @@ firstSaid n bytes =
 abbrev pub Says : ℕ → Record → records.Record → Type 0
 Says n (Table t) s = s ≡ records.tableRecord t
 Says n (Select body) s = (c : Condition) × (conditionForm (WrongForm n) (now body) ≡ done c) × (s ≡ records.selectRecord c)
-Says n (Project cs) s = s ≡ records.projectRecord (now cs)
+Says n (Project cs) s = (s ≡ records.projectRecord (now cs)) × (length (now cs) ≤ 8)
 Says n Product s = s ≡ records.productRecord
 Says n Union s = s ≡ records.unionRecord
 Says n Difference s = s ≡ records.differenceRecord

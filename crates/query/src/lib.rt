@@ -3,9 +3,11 @@
 mod columns;
 mod condition;
 mod first;
+mod grow;
 mod kinds;
 mod plan;
 mod reader;
+mod step;
 mod record;
 mod term;
 

@@ -1,5 +1,5 @@
 ghost use mathlib.Core.Path.{_≡_};
-ghost use Prim.Native.Nat.{_≤_};
+ghost use Prim.Native.Nat.{_≤_, _<_};
 ghost use lib.ListN.{length};
 use crate::kinds::Kinds;
 
@@ -10,6 +10,7 @@ pub struct Position {
     pub at: usize,
     pub left: usize,
     pub start: usize,
+    ghost low: { start < 15 },
 }
 
 /// A query that has passed the questions: its records by number, and the kinds of their columns.
