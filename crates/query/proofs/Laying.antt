@@ -11,6 +11,7 @@ use Rattle.std.specs.declared.option.Option.the-variants.{Some, None}
 use Rattle.std.proofs.shelf.Lists.{append-assoc, length-append, length-push, getD-push, getD-append-left, getD-append-right}
 use Rattle.std.proofs.shelf.Tests.{le-leb, lt-leb}
 use Rattle.semantics.specs.declared.kind.Kind.{Kind}
+use Rattle.semantics.specs.declared.kind.Kind.the-variants.{Number}
 use Rattle.semantics.specs.declared.kind.Column.{Column}
 use Rattle.semantics.specs.declared.refusal.Refusal.{Refusal}
 use Rattle.semantics.specs.declared.refusal.Refusal.the-variants.{StackShort, NoSuchName, Unfit, ProductTooWide}
@@ -27,6 +28,13 @@ use Rattle.query.specs.declared.step.Step.{Step}
 use Rattle.query.specs.Kinds.{kindsIn, among}
 use Rattle.query.specs.Plans.{Parted, NodeOf, Plans, laid, asked, Grew, SidesIs}
 use Rattle.query.proofs.Widths.{wide}
+
+-- some kinds and some position
+pub none : Kinds
+none = record { list = Number ∷ (Number ∷ (Number ∷ (Number ∷ (Number ∷ (Number ∷ (Number ∷ (Number ∷ []))))))); width = 0; short = omega arith; eight = refl }
+
+pub nowhere : Position
+nowhere = record { at = 0; left = 0; start = 0; low = omega arith }
 
 -- a tree is the last of its relations
 last-at : {X : Type 0} (xs : List X) (y d : X) → getD (xs ++ y ∷ []) (length (xs ++ y ∷ []) - 1) d ≡ y
@@ -95,15 +103,15 @@ module _ (columns : List (List Column)) (bytes : List ℕ) (plan : Plan) where
   left-none (x ∷ []) plans z = refl
   left-none (x ∷ (y ∷ below)) plans z = absurd (omega (arith, some-count x (y ∷ below) plans))
 
-  pub left-single : (stack : List Tree) (p : Position) → Plans columns bytes plan (laid stack) → (k : Kinds) → getD (plan .positions) (plan .count - 1) p .start ≡ 0 → SidesIs stack None
-  left-single [] p plans k z = refl
-  left-single (x ∷ []) p plans k z = refl
-  left-single (x ∷ (y ∷ below)) p plans k z = absurd (let t = top-known x (y ∷ below) plans p k in omega (arith, t .1, z, length-append (laid below) (nodes y), nodes-some y))
+  pub left-single : (stack : List Tree) (p : Position) → Plans columns bytes plan (laid stack) → getD (plan .positions) (plan .count - 1) p .start ≡ 0 → SidesIs stack None
+  left-single [] p plans z = refl
+  left-single (x ∷ []) p plans z = refl
+  left-single (x ∷ (y ∷ below)) p plans z = absurd (let t = top-known x (y ∷ below) plans p none in omega (arith, t .1, z, length-append (laid below) (nodes y), nodes-some y))
 
-  pub left-some : (stack : List Tree) (p : Position) → Plans columns bytes plan (laid stack) → (k : Kinds) → (plan .count ≡ 0 → ⊥) → (getD (plan .positions) (plan .count - 1) p .start ≡ 0 → ⊥) → SidesIs stack (Some (getD (plan .positions) (plan .count - 1) p .start - 1))
-  left-some [] p plans k n z = absurd (n (plans .counted))
-  left-some (x ∷ []) p plans k n z = absurd (z (top-known x [] plans p k .1))
-  left-some (x ∷ (y ∷ below)) p plans k n z = let t = top-known x (y ∷ below) plans p k in ap (λ m. Some (m - 1)) (t .1)
+  pub left-some : (stack : List Tree) (p : Position) → Plans columns bytes plan (laid stack) → (plan .count ≡ 0 → ⊥) → (getD (plan .positions) (plan .count - 1) p .start ≡ 0 → ⊥) → SidesIs stack (Some (getD (plan .positions) (plan .count - 1) p .start - 1))
+  left-some [] p plans n z = absurd (n (plans .counted))
+  left-some (x ∷ []) p plans n z = absurd (z (top-known x [] plans p none .1))
+  left-some (x ∷ (y ∷ below)) p plans n z = let t = top-known x (y ∷ below) plans p none in ap (λ m. Some (m - 1)) (t .1)
 
   -- A selection.
   module _ (c : Condition) where
@@ -169,3 +177,124 @@ module _ (columns : List (List Column)) (bytes : List ℕ) (plan : Plan) where
           ; parted = (omega (arith, l, plans .counted, t .2), sym (ap (λ i. getD (laid (x ∷ below)) i (table 0)) l ∙ top-at x below (plan .count) (plans .counted)))
           ; begins = omega (arith, s, t .1, length-append (laid below) (nodes x), length-push (nodes x) (project cs x))
           ; known = d ∙ ap (λ ks. map (kindAt ks) cs) (t .0) }
+
+  -- two relations under one
+  two-laid : (x y : Tree) (below : List Tree) (s : Tree) → laid below ++ ((nodes y ++ nodes x) ++ s ∷ []) ≡ ((laid below ++ nodes y) ++ nodes x) ++ s ∷ []
+  two-laid x y below s = simp append-assoc
+
+  two-parted : (x y : Tree) (below : List Tree) (left : ℕ) → Plans columns bytes plan (laid (x ∷ (y ∷ below))) → left ≡ length (laid (y ∷ below)) - 1 → (left < length (laid (x ∷ (y ∷ below)))) × (y ≡ getD (laid (x ∷ (y ∷ below))) left (table 0)) × (1 ≤ length (laid (x ∷ (y ∷ below)))) × (x ≡ getD (laid (x ∷ (y ∷ below))) (length (laid (x ∷ (y ∷ below))) - 1) (table 0))
+  two-parted x y below left plans is =
+      let l = length-append (laid (y ∷ below)) (nodes x) in
+      let m = length-append (laid below) (nodes y) in
+      let s = nodes-some x in
+      let r = nodes-some y in
+      ( omega arith
+      , sym (ap (λ i. getD (laid (x ∷ (y ∷ below))) i (table 0)) is ∙ second-at x y below)
+      , omega arith
+      , sym (top-at x (y ∷ below) (length (laid (x ∷ (y ∷ below)))) refl) )
+
+  two-begins : (x y : Tree) (below : List Tree) (s : Tree) (start : ℕ) → nodes s ≡ (nodes y ++ nodes x) ++ s ∷ [] → start ≡ length (laid below) → start + length (nodes s) ≡ length (laid (x ∷ (y ∷ below))) + 1
+  two-begins x y below s start n e =
+      omega (arith, ap length n, length-push (nodes y ++ nodes x) s, length-append (nodes y) (nodes x), length-append (laid (y ∷ below)) (nodes x), length-append (laid below) (nodes y))
+
+  -- A product.
+  pub product-short : (stack : List Tree) → SidesIs stack None → asked columns (plan .count) stack productRecord ≡ refuse (StackShort (plan .count))
+  product-short [] s = refl
+  product-short (x ∷ []) s = refl
+  product-short (x ∷ (y ∷ below)) s = let z : _≡_ {A = ℕ} 0 1 = cc in absurd (omega arith)
+
+  pub product-wide : (stack : List Tree) (left : ℕ) (k l : Kinds) → Plans columns bytes plan (laid stack) → SidesIs stack (Some left) → 8 < getD (plan .kinds) left k .width + getD (plan .kinds) (plan .count - 1) l .width → asked columns (plan .count) stack productRecord ≡ refuse (ProductTooWide (plan .count))
+  product-wide [] left k l plans s h = let z : _≡_ {A = ℕ} 0 1 = cc in absurd (omega arith)
+  product-wide (x ∷ []) left k l plans s h = let z : _≡_ {A = ℕ} 0 1 = cc in absurd (omega arith)
+  product-wide (x ∷ (y ∷ below)) left k l plans s h =
+      let is : left ≡ length (laid (y ∷ below)) - 1 = cc in
+      let t = top-known x (y ∷ below) plans nowhere l in
+      let u = second-known x y below plans left is nowhere k in
+      let a : leb (length (kindsOf columns y) + length (kindsOf columns x)) 8 ≡ false = lt-leb _ _ (omega (arith, ap length (t .0), ap length (u .0), wide (getD (plan .kinds) left k), wide (getD (plan .kinds) (plan .count - 1) l))) in
+      rw a
+
+  pub product-grew : (stack : List Tree) (left : ℕ) (k l : Kinds) (p : Position) (step : Step) → Plans columns bytes plan (laid stack) → SidesIs stack (Some left) → getD (plan .kinds) left k .width + getD (plan .kinds) (plan .count - 1) l .width ≤ 8 → step .left ≡ left → step .start ≡ getD (plan .positions) left p .start → kindsIn (step .kinds) ≡ kindsIn (getD (plan .kinds) left k) ++ kindsIn (getD (plan .kinds) (plan .count - 1) l) → Grew columns stack step productRecord (asked columns (plan .count) stack productRecord)
+  product-grew [] left k l p step plans s h f g d = let z : _≡_ {A = ℕ} 0 1 = cc in absurd (omega arith)
+  product-grew (x ∷ []) left k l p step plans s h f g d = let z : _≡_ {A = ℕ} 0 1 = cc in absurd (omega arith)
+  product-grew (x ∷ (y ∷ below)) left k l p step plans s h f g d =
+      let is : left ≡ length (laid (y ∷ below)) - 1 = cc in
+      let t = top-known x (y ∷ below) plans nowhere l in
+      let u = second-known x y below plans left is p k in
+      let a : leb (length (kindsOf columns y) + length (kindsOf columns x)) 8 ≡ true = le-leb _ _ (omega (arith, ap length (t .0), ap length (u .0), wide (getD (plan .kinds) left k), wide (getD (plan .kinds) (plan .count - 1) l))) in
+      record
+        { top = product y x
+        ; below = below
+        ; is = rw a
+        ; adds = two-laid x y below (product y x)
+        ; said = refl
+        ; parted = two-parted x y below (step .left) plans (f ∙ is)
+        ; begins = two-begins x y below (product y x) (step .start) refl (g ∙ u .1)
+        ; known = d ∙ ap (λ ks. ks ++ kindsIn (getD (plan .kinds) (plan .count - 1) l)) (u .0) ∙ ap (λ ks. kindsOf columns y ++ ks) (t .0) }
+
+  -- A union and a difference.
+
+  pub union-short : (stack : List Tree) → SidesIs stack None → asked columns (plan .count) stack unionRecord ≡ refuse (StackShort (plan .count))
+  union-short [] s = refl
+  union-short (x ∷ []) s = refl
+  union-short (x ∷ (y ∷ below)) s = let z : _≡_ {A = ℕ} 0 1 = cc in absurd (omega arith)
+
+  pub union-unfit : (stack : List Tree) (left : ℕ) (k l : Kinds) → Plans columns bytes plan (laid stack) → SidesIs stack (Some left) → false ≡ pairwise sameKind (kindsIn (getD (plan .kinds) left k)) (kindsIn (getD (plan .kinds) (plan .count - 1) l)) → asked columns (plan .count) stack unionRecord ≡ refuse (Unfit (plan .count))
+  union-unfit [] left k l plans s h = let z : _≡_ {A = ℕ} 0 1 = cc in absurd (omega arith)
+  union-unfit (x ∷ []) left k l plans s h = let z : _≡_ {A = ℕ} 0 1 = cc in absurd (omega arith)
+  union-unfit (x ∷ (y ∷ below)) left k l plans s h =
+      let is : left ≡ length (laid (y ∷ below)) - 1 = cc in
+      let t = top-known x (y ∷ below) plans nowhere l in
+      let u = second-known x y below plans left is nowhere k in
+      let a : pairwise sameKind (kindsOf columns y) (kindsOf columns x) ≡ false = sym (h ∙ ap (λ ks. pairwise sameKind ks (kindsIn (getD (plan .kinds) (plan .count - 1) l))) (u .0) ∙ ap (λ ks. pairwise sameKind (kindsOf columns y) ks) (t .0)) in
+      rw a
+
+  pub union-grew : (stack : List Tree) (left : ℕ) (k l : Kinds) (p : Position) (step : Step) → Plans columns bytes plan (laid stack) → SidesIs stack (Some left) → true ≡ pairwise sameKind (kindsIn (getD (plan .kinds) left k)) (kindsIn (getD (plan .kinds) (plan .count - 1) l)) → step .left ≡ left → step .start ≡ getD (plan .positions) left p .start → step .kinds ≡ getD (plan .kinds) left k → Grew columns stack step unionRecord (asked columns (plan .count) stack unionRecord)
+  union-grew [] left k l p step plans s h f g d = let z : _≡_ {A = ℕ} 0 1 = cc in absurd (omega arith)
+  union-grew (x ∷ []) left k l p step plans s h f g d = let z : _≡_ {A = ℕ} 0 1 = cc in absurd (omega arith)
+  union-grew (x ∷ (y ∷ below)) left k l p step plans s h f g d =
+      let is : left ≡ length (laid (y ∷ below)) - 1 = cc in
+      let t = top-known x (y ∷ below) plans nowhere l in
+      let u = second-known x y below plans left is p k in
+      let a : pairwise sameKind (kindsOf columns y) (kindsOf columns x) ≡ true = sym (h ∙ ap (λ ks. pairwise sameKind ks (kindsIn (getD (plan .kinds) (plan .count - 1) l))) (u .0) ∙ ap (λ ks. pairwise sameKind (kindsOf columns y) ks) (t .0)) in
+      record
+        { top = union y x
+        ; below = below
+        ; is = rw a
+        ; adds = two-laid x y below (union y x)
+        ; said = refl
+        ; parted = two-parted x y below (step .left) plans (f ∙ is)
+        ; begins = two-begins x y below (union y x) (step .start) refl (g ∙ u .1)
+        ; known = ap kindsIn d ∙ u .0 }
+
+  pub difference-short : (stack : List Tree) → SidesIs stack None → asked columns (plan .count) stack differenceRecord ≡ refuse (StackShort (plan .count))
+  difference-short [] s = refl
+  difference-short (x ∷ []) s = refl
+  difference-short (x ∷ (y ∷ below)) s = let z : _≡_ {A = ℕ} 0 1 = cc in absurd (omega arith)
+
+  pub difference-unfit : (stack : List Tree) (left : ℕ) (k l : Kinds) → Plans columns bytes plan (laid stack) → SidesIs stack (Some left) → false ≡ pairwise sameKind (kindsIn (getD (plan .kinds) left k)) (kindsIn (getD (plan .kinds) (plan .count - 1) l)) → asked columns (plan .count) stack differenceRecord ≡ refuse (Unfit (plan .count))
+  difference-unfit [] left k l plans s h = let z : _≡_ {A = ℕ} 0 1 = cc in absurd (omega arith)
+  difference-unfit (x ∷ []) left k l plans s h = let z : _≡_ {A = ℕ} 0 1 = cc in absurd (omega arith)
+  difference-unfit (x ∷ (y ∷ below)) left k l plans s h =
+      let is : left ≡ length (laid (y ∷ below)) - 1 = cc in
+      let t = top-known x (y ∷ below) plans nowhere l in
+      let u = second-known x y below plans left is nowhere k in
+      let a : pairwise sameKind (kindsOf columns y) (kindsOf columns x) ≡ false = sym (h ∙ ap (λ ks. pairwise sameKind ks (kindsIn (getD (plan .kinds) (plan .count - 1) l))) (u .0) ∙ ap (λ ks. pairwise sameKind (kindsOf columns y) ks) (t .0)) in
+      rw a
+
+  pub difference-grew : (stack : List Tree) (left : ℕ) (k l : Kinds) (p : Position) (step : Step) → Plans columns bytes plan (laid stack) → SidesIs stack (Some left) → true ≡ pairwise sameKind (kindsIn (getD (plan .kinds) left k)) (kindsIn (getD (plan .kinds) (plan .count - 1) l)) → step .left ≡ left → step .start ≡ getD (plan .positions) left p .start → step .kinds ≡ getD (plan .kinds) left k → Grew columns stack step differenceRecord (asked columns (plan .count) stack differenceRecord)
+  difference-grew [] left k l p step plans s h f g d = let z : _≡_ {A = ℕ} 0 1 = cc in absurd (omega arith)
+  difference-grew (x ∷ []) left k l p step plans s h f g d = let z : _≡_ {A = ℕ} 0 1 = cc in absurd (omega arith)
+  difference-grew (x ∷ (y ∷ below)) left k l p step plans s h f g d =
+      let is : left ≡ length (laid (y ∷ below)) - 1 = cc in
+      let t = top-known x (y ∷ below) plans nowhere l in
+      let u = second-known x y below plans left is p k in
+      let a : pairwise sameKind (kindsOf columns y) (kindsOf columns x) ≡ true = sym (h ∙ ap (λ ks. pairwise sameKind ks (kindsIn (getD (plan .kinds) (plan .count - 1) l))) (u .0) ∙ ap (λ ks. pairwise sameKind (kindsOf columns y) ks) (t .0)) in
+      record
+        { top = difference y x
+        ; below = below
+        ; is = rw a
+        ; adds = two-laid x y below (difference y x)
+        ; said = refl
+        ; parted = two-parted x y below (step .left) plans (f ∙ is)
+        ; begins = two-begins x y below (difference y x) (step .start) refl (g ∙ u .1)
+        ; known = ap kindsIn d ∙ u .0 }
