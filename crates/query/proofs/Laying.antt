@@ -2,14 +2,15 @@
 use mathlib.Core.Path.{_≡_, refl, sym, ap, subst, _∙_}
 use mathlib.Core.Bool.{Bool, true, false, cond, _&&_}
 use mathlib.Core.List.{List, [], _∷_, _++_, map}
+use mathlib.Core.Logic.{_⊎_, inl, inr, ⊎-elim, _≢_}
 use Prim.Native.Nat.{ℕ, _+_, _-_, _≤_, _<_, suc}
 use native.Mathlib.Omega.{arith}
-use lib.Dec.{leb, ltb}
-use lib.ListN.{length, getD, drop}
+use lib.Dec.{leb, ltb, eqb}
+use lib.ListN.{length, getD, drop, set}
 use Rattle.std.specs.declared.option.Option.{Option}
 use Rattle.std.specs.declared.option.Option.the-variants.{Some, None}
-use Rattle.std.proofs.shelf.Lists.{append-assoc, length-append, length-push, getD-push, getD-append-left, getD-append-right}
-use Rattle.std.proofs.shelf.Tests.{le-leb, lt-leb}
+use Rattle.std.proofs.shelf.Lists.{append-assoc, length-append, length-push, getD-push, getD-append-left, getD-append-right, getD-set-same, getD-set-other}
+use Rattle.std.proofs.shelf.Tests.{le-leb, lt-leb, eq-eqb, ne-eqb, cases-lt}
 use Rattle.semantics.specs.declared.kind.Kind.{Kind}
 use Rattle.semantics.specs.declared.kind.Kind.the-variants.{Number}
 use Rattle.semantics.specs.declared.kind.Column.{Column}
@@ -20,13 +21,14 @@ use Rattle.semantics.specs.Kinds.{sameKind}
 use Rattle.semantics.specs.Lists.{pairwise}
 use Rattle.semantics.specs.Outcomes.{Outcome, done, refuse, question, andThen}
 use Rattle.semantics.specs.Queries.{Tree, table, select, project, product, union, difference, nodes, kindsOf, named, fitted, narrow}
-use Rattle.semantics.specs.Records.{recordOf, selectRecord, projectRecord, productRecord, unionRecord, differenceRecord}
+use Rattle.semantics.specs.Records.{Record, recordOf, selectRecord, projectRecord, productRecord, unionRecord, differenceRecord}
 use Rattle.query.specs.declared.kinds.Kinds.{Kinds}
 use Rattle.query.specs.declared.plan.Position.{Position}
 use Rattle.query.specs.declared.plan.Plan.{Plan}
 use Rattle.query.specs.declared.step.Step.{Step}
 use Rattle.query.specs.Kinds.{kindsIn, among}
-use Rattle.query.specs.Plans.{Parted, NodeOf, Plans, laid, asked, Grew, SidesIs}
+use Rattle.query.specs.Plans.{Parted, NodeOf, Plans, laid, asked, Grew, SidesIs, lone}
+use Rattle.query.specs.Saying.{First, firstSaid}
 use Rattle.query.proofs.Widths.{wide}
 
 -- some kinds and some position
@@ -112,6 +114,16 @@ module _ (columns : List (List Column)) (bytes : List ℕ) (plan : Plan) where
   left-some [] p plans n z = absurd (n (plans .counted))
   left-some (x ∷ []) p plans n z = absurd (z (top-known x [] plans p none .1))
   left-some (x ∷ (y ∷ below)) p plans n z = let t = top-known x (y ∷ below) plans p none in ap (λ m. Some (m - 1)) (t .1)
+
+  -- Whether one is left.
+  pub lone-none : (stack : List Tree) → Plans columns bytes plan (laid stack) → plan .count ≡ 0 → false ≡ lone stack
+  lone-none [] plans z = refl
+  lone-none (x ∷ below) plans z = absurd (omega (arith, some-count x below plans))
+
+  pub lone-is : (stack : List Tree) (p : Position) → Plans columns bytes plan (laid stack) → (plan .count ≡ 0 → ⊥) → eqb (getD (plan .positions) (plan .count - 1) p .start) 0 ≡ lone stack
+  lone-is [] p plans n = absurd (n (plans .counted))
+  lone-is (x ∷ []) p plans n = eq-eqb _ 0 (top-known x [] plans p none .1)
+  lone-is (x ∷ (y ∷ below)) p plans n = ne-eqb _ 0 (λ z. let t = top-known x (y ∷ below) plans p none in omega (arith, t .1, z, length-append (laid below) (nodes y), nodes-some y))
 
   -- A selection.
   module _ (c : Condition) where
@@ -298,3 +310,81 @@ module _ (columns : List (List Column)) (bytes : List ℕ) (plan : Plan) where
         ; parted = two-parted x y below (step .left) plans (f ∙ is)
         ; begins = two-begins x y below (difference y x) (step .start) refl (g ∙ u .1)
         ; known = ap kindsIn d ∙ u .0 }
+
+-- One more record in a plan.
+parted-more : (qs ys : List Tree) (i left : ℕ) (q : Tree) → i < length qs → Parted qs i left q → Parted (qs ++ ys) i left q
+parted-more qs ys i left (table t) h p = tt
+parted-more qs ys i left (select c q) h p = (p .0, p .1 ∙ sym (getD-append-left qs ys (table 0) left (omega (arith, p .0))))
+parted-more qs ys i left (project cs q) h p = (p .0, p .1 ∙ sym (getD-append-left qs ys (table 0) left (omega (arith, p .0))))
+parted-more qs ys i left (product q r) h p = (p .0, p .1 ∙ sym (getD-append-left qs ys (table 0) left (omega (arith, p .0))), p .2, p .3 ∙ sym (getD-append-left qs ys (table 0) (i - 1) (omega arith)))
+parted-more qs ys i left (union q r) h p = (p .0, p .1 ∙ sym (getD-append-left qs ys (table 0) left (omega (arith, p .0))), p .2, p .3 ∙ sym (getD-append-left qs ys (table 0) (i - 1) (omega arith)))
+parted-more qs ys i left (difference q r) h p = (p .0, p .1 ∙ sym (getD-append-left qs ys (table 0) left (omega (arith, p .0))), p .2, p .3 ∙ sym (getD-append-left qs ys (table 0) (i - 1) (omega arith)))
+
+parted-last : (qs ys : List Tree) (left : ℕ) (q : Tree) → Parted qs (length qs) left q → Parted (qs ++ ys) (length qs) left q
+parted-last qs ys left (table t) p = tt
+parted-last qs ys left (select c q) p = (p .0, p .1 ∙ sym (getD-append-left qs ys (table 0) left (p .0)))
+parted-last qs ys left (project cs q) p = (p .0, p .1 ∙ sym (getD-append-left qs ys (table 0) left (p .0)))
+parted-last qs ys left (product q r) p = (p .0, p .1 ∙ sym (getD-append-left qs ys (table 0) left (p .0)), p .2, p .3 ∙ sym (getD-append-left qs ys (table 0) (length qs - 1) (omega (arith, p .2))))
+parted-last qs ys left (union q r) p = (p .0, p .1 ∙ sym (getD-append-left qs ys (table 0) left (p .0)), p .2, p .3 ∙ sym (getD-append-left qs ys (table 0) (length qs - 1) (omega (arith, p .2))))
+parted-last qs ys left (difference q r) p = (p .0, p .1 ∙ sym (getD-append-left qs ys (table 0) left (p .0)), p .2, p .3 ∙ sym (getD-append-left qs ys (table 0) (length qs - 1) (omega (arith, p .2))))
+
+module _ (columns : List (List Column)) (bytes : List ℕ) where
+  -- the nodes that were there
+  node-more : (qs ys : List Tree) (i : ℕ) (p : Position) (k : Kinds) → i < length qs → NodeOf columns bytes qs i p k → NodeOf columns bytes (qs ++ ys) i p k
+  node-more qs ys i p k h n =
+      let e : getD qs i (table 0) ≡ getD (qs ++ ys) i (table 0) = sym (getD-append-left qs ys (table 0) i h) in
+      record
+        { rest = n .rest
+        ; says = n .says ∙ ap (λ (q : Tree). done (record { says = recordOf q; rest = n .rest })) e
+        ; parted = subst (λ (q : Tree). Parted (qs ++ ys) i (p .left) q) e (parted-more qs ys i (p .left) (getD qs i (table 0)) h (n .parted))
+        ; begins = subst (λ (q : Tree). p .start + length (nodes q) ≡ i + 1) e (n .begins)
+        ; known = n .known ∙ ap (kindsOf columns) e }
+
+  -- the new one
+  node-last : (qs : List Tree) (q : Tree) (p : Position) (k : Kinds) (rest : List ℕ) → firstSaid (length qs) (drop (p .at) bytes) ≡ done (record { says = recordOf q; rest = rest }) → Parted qs (length qs) (p .left) q → p .start + length (nodes q) ≡ length qs + 1 → kindsIn k ≡ kindsOf columns q → NodeOf columns bytes (qs ++ q ∷ []) (length qs) p k
+  node-last qs q p k rest s d b n =
+      let e : q ≡ getD (qs ++ q ∷ []) (length qs) (table 0) = sym (getD-push qs q (table 0) (length qs) refl) in
+      record
+        { rest = rest
+        ; says = s ∙ ap (λ (x : Tree). done (record { says = recordOf x; rest = rest })) e
+        ; parted = subst (λ (x : Tree). Parted (qs ++ q ∷ []) (length qs) (p .left) x) e (parted-last qs (q ∷ []) (p .left) q d)
+        ; begins = subst (λ (x : Tree). p .start + length (nodes x) ≡ length qs + 1) e b
+        ; known = n ∙ ap (kindsOf columns) e }
+
+  pub plans-more :
+      (before after : Plan) (stack : List Tree) (step : Step) (at : ℕ) (pos : Position) (says : Record) (rest : List ℕ) (o : Outcome (List Tree)) →
+      before .count < 15 → after .count ≡ before .count + 1 →
+      pos .at ≡ at → pos .left ≡ step .left → pos .start ≡ step .start →
+      after .positions ≡ set (before .positions) (before .count) pos → after .kinds ≡ set (before .kinds) (before .count) (step .kinds) →
+      Plans columns bytes before (laid stack) → (grew : Grew columns stack step says o) →
+      firstSaid (before .count) (drop at bytes) ≡ done (record { says = says; rest = rest }) →
+      Plans columns bytes after (laid (grew .top ∷ grew .below))
+  plans-more before after stack step at pos says rest o room count a l s ps ks plans grew said =
+      let n : before .count ≡ length (laid stack) = plans .counted in
+      let qs : List Tree = laid stack in
+      let q : Tree = grew .top in
+      subst (λ (xs : List Tree). Plans columns bytes after xs) (sym (grew .adds))
+      (record
+        { counted = count ∙ ap (λ m. m + 1) n ∙ sym (length-push qs q)
+        ; each = λ i p k h.
+            ⊎-elim
+              (λ (lt : i < length qs).
+                let ne : i ≢ before .count = λ e. omega arith in
+                let u : getD (before .positions) i p ≡ getD (after .positions) i p = sym (ap (λ xs. getD xs i p) ps ∙ getD-set-other (before .positions) (before .count) i pos p ne) in
+                let v : getD (before .kinds) i k ≡ getD (after .kinds) i k = sym (ap (λ xs. getD xs i k) ks ∙ getD-set-other (before .kinds) (before .count) i (step .kinds) k ne) in
+                subst (λ (x : Position). NodeOf columns bytes (qs ++ q ∷ []) i x (getD (after .kinds) i k)) u
+                (subst (λ (y : Kinds). NodeOf columns bytes (qs ++ q ∷ []) i (getD (before .positions) i p) y) v
+                (node-more qs (q ∷ []) i (getD (before .positions) i p) (getD (before .kinds) i k) lt (plans .each i p k lt))))
+              (λ (ge : length qs ≤ i).
+                let here : i ≡ length qs = omega (arith, h, length-push qs q) in
+                let at-count : i ≡ before .count = here ∙ sym n in
+                let u : pos ≡ getD (after .positions) i p = sym (ap (λ xs. getD xs i p) ps ∙ ap (λ j. getD (set (before .positions) (before .count) pos) j p) at-count ∙ getD-set-same (before .positions) (before .count) pos p (omega (arith, before .placed))) in
+                let v : step .kinds ≡ getD (after .kinds) i k = sym (ap (λ xs. getD xs i k) ks ∙ ap (λ j. getD (set (before .kinds) (before .count) (step .kinds)) j k) at-count ∙ getD-set-same (before .kinds) (before .count) (step .kinds) k (omega (arith, before .known))) in
+                let spoken : firstSaid (length qs) (drop (pos .at) bytes) ≡ done (record { says = recordOf q; rest = rest }) =
+                  ap (λ m. firstSaid m (drop (pos .at) bytes)) (sym n) ∙ ap (λ m. firstSaid (before .count) (drop m bytes)) a ∙ said ∙ ap (λ (r : Record). done (record { says = r; rest = rest })) (sym (grew .said)) in
+                let new : NodeOf columns bytes (qs ++ q ∷ []) (length qs) pos (step .kinds) =
+                  node-last qs q pos (step .kinds) rest spoken (subst (λ (m : ℕ). Parted qs (length qs) m q) (sym l) (grew .parted)) (ap (λ m. m + length (nodes q)) s ∙ grew .begins) (grew .known) in
+                subst (λ (x : Position). NodeOf columns bytes (qs ++ q ∷ []) i x (getD (after .kinds) i k)) u
+                (subst (λ (y : Kinds). NodeOf columns bytes (qs ++ q ∷ []) i pos y) v
+                (subst (λ (j : ℕ). NodeOf columns bytes (qs ++ q ∷ []) j pos (step .kinds)) (sym here) new)))
+              (cases-lt i (length qs)) })

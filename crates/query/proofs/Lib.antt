@@ -6,3 +6,4 @@ pub mod Reading
 pub mod Widths
 pub mod Going
 pub mod Laying
+pub mod Checking

@@ -1,5 +1,6 @@
 -- What a plan stands for: the relations of a query by record number.
 use mathlib.Core.Path.{_≡_}
+use mathlib.Core.Bool.{Bool, true, false}
 use mathlib.Core.List.{List, [], _∷_, _++_}
 use Prim.Native.Nat.{ℕ, _+_, _-_, _≤_, _<_}
 use lib.ListN.{length, getD, drop}
@@ -81,3 +82,14 @@ abbrev pub SidesIs : List Tree → Option ℕ → Type 0
 SidesIs [] r = r ≡ None
 SidesIs (x ∷ []) r = r ≡ None
 SidesIs (x ∷ (y ∷ below)) r = r ≡ Some (length (laid (y ∷ below)) - 1)
+
+-- Is exactly one relation on the stack?
+abbrev pub lone : List Tree → Bool
+lone [] = false
+lone (x ∷ []) = true
+lone (x ∷ (y ∷ below)) = false
+
+-- The code's answer to a query: the plan of the tree, or the refusal.
+abbrev pub Checks : List (List Column) → List ℕ → Result Plan Refusal → Outcome Tree → Type 0
+Checks columns bytes (Ok plan) o = (q : Tree) × (o ≡ done q) × Plans columns bytes plan (nodes q)
+Checks columns bytes (Err e) o = o ≡ refuse e

@@ -53,3 +53,12 @@ Says n Difference s = s ≡ records.differenceRecord
 -- The code has read this record and the bytes after it.
 abbrev pub ReadAs : ℕ → Record × RefT (List ℕ) → First → Type 0
 ReadAs n p f = Says n (p .0) (f .says) × (now (p .1) ≡ f .rest)
+
+-- A project lists at most 8 columns.
+abbrev pub Short : Record → Type 0
+Short (Table t) = Unit {0}
+Short (Select body) = Unit {0}
+Short (Project cs) = length (now cs) ≤ 8
+Short Product = Unit {0}
+Short Union = Unit {0}
+Short Difference = Unit {0}

@@ -1,22 +1,26 @@
 ghost use mathlib.Core.Path.{_≡_};
-ghost use mathlib.Core.List.{List};
+ghost use mathlib.Core.List.{List, [], _∷_};
 ghost use Prim.Native.Nat.{ℕ, _+_, _≤_, _<_};
-ghost use lib.ListN.{length, set};
+ghost use lib.ListN.{length, drop};
 ghost use Rattle.std.specs.Options.{Cases as BySome};
 ghost use Rattle.semantics.specs.declared.kind.Column.{Column};
 ghost use Rattle.semantics.specs.declared.refusal.Refusal.the-variants.{WrongForm};
 ghost use Rattle.semantics.specs.Conditions.{Condition};
-ghost use Rattle.semantics.specs.Outcomes.{done};
+ghost use Rattle.semantics.specs.Outcomes.{Outcome, done};
 ghost use Rattle.semantics.specs.Queries.{Tree};
 ghost use Rattle.semantics.specs.Reading.{conditionForm};
+ghost use Rattle.semantics.specs.Records as records;
 ghost use Rattle.semantics.specs.Records.{tableRecord, selectRecord, projectRecord, productRecord, unionRecord, differenceRecord};
 ghost use Rattle.book.specs.Books.{bookModel};
-ghost use Rattle.query.specs.Plans.{Plans, laid, asked, StepIs, SidesIs};
+ghost use Rattle.query.specs.Plans.{Plans, laid, asked, Grew, StepIs, SidesIs, lone};
+ghost use Rattle.query.specs.Saying.{firstSaid, Says, Short};
 
 use crate::condition::all_fitting;
 use crate::condition::all_named;
 use crate::kinds::Kinds;
 use crate::plan::Plan;
+use crate::plan::Position;
+use crate::record::Record;
 use crate::step::Step;
 use book::Book;
 use semantics::Refusal;
@@ -125,5 +129,51 @@ impl Plan {
         }
         let position = self.positions[left];
         Ok(Step { left, start: position.start, kinds })
+    }
+
+    /// What a record adds to the plan, once the questions about its parts have passed.
+    pub(crate) fn grow(&self, said: Record, book: &Book) -> Result<Step, Refusal>
+        requires { ⌜ now self .count < 15 ⌝ ∗ ⌜ Short said ⌝ }
+        ensures { λ r. ⌜ ((bytes : List ℕ) (stack : List Tree) (says : records.Record) → Plans (bookModel (now (book .entry)) .columns) bytes (now (self .entry)) (laid stack) → Says (now (self .entry) .count) (said .entry) says → StepIs (bookModel (now (book .entry)) .columns) stack says r (asked (bookModel (now (book .entry)) .columns) (now (self .entry) .count) stack says)) ⌝ }
+    {
+        match said {
+            Record::Table(number) => table(number, self.count, book),
+            Record::Select(body) => self.select(body),
+            Record::Project(listed) => self.project(listed),
+            Record::Product => self.product(),
+            Record::Union => self.merge(),
+            Record::Difference => self.merge(),
+        }
+    }
+
+    /// Whether exactly one relation is left.
+    pub(crate) fn is_single(&self) -> bool
+        ensures { λ r. ⌜ ((columns : List (List Column)) (bytes : List ℕ) (stack : List Tree) → Plans columns bytes (now (self .entry)) (laid stack) → r ≡ lone stack) ⌝ }
+    {
+        if self.count == 0 {
+            return false;
+        }
+        let position = self.positions[self.count - 1];
+        position.start == 0
+    }
+
+    /// A plan without records.
+    pub(crate) fn empty() -> Plan
+        ensures { λ r. ⌜ ((columns : List (List Column)) (bytes : List ℕ) → Plans columns bytes r []) ⌝ }
+    {
+        let position = Position { at: 0, left: 0, start: 0 };
+        Plan { positions: [position; 15], kinds: [Kinds::none(); 15], count: 0 }
+    }
+
+    /// Adds a record that begins at a byte.
+    pub(crate) fn push(&mut self, at: usize, step: Step)
+        requires { ⌜ now self .count < 15 ⌝ }
+        ensures count { λ _. ⌜ now (self .exit) .count ≡ now (self .entry) .count + 1 ⌝ }
+        ensures plans { λ _. ⌜ ((columns : List (List Column)) (bytes : List ℕ) (stack : List Tree) (says : records.Record) (rest : List ℕ) (o : Outcome (List Tree)) → Plans columns bytes (now (self .entry)) (laid stack) → (grew : Grew columns stack step says o) → firstSaid (now (self .entry) .count) (drop at bytes) ≡ done (record { says = says; rest = rest }) → Plans columns bytes (now (self .exit)) (laid (grew .top ∷ grew .below))) ⌝ }
+    {
+        let count = self.count;
+        self.positions[count] = Position { at, left: step.left, start: step.start };
+        self.kinds[count] = step.kinds;
+        self.count = count + 1;
     }
 }
