@@ -45,7 +45,11 @@ impl Book<'_> {
         ensures value { λ r. ⌜ r ≡ length (columnsOf (bookModel (now (self .entry))) table) ⌝ }
         ensures few { λ r. ⌜ r ≤ 8 ⌝ }
     {
-        if table < 4 { self.tables[table].width } else { 0 }
+        if table < 4 {
+            self.tables[table].width
+        } else {
+            0
+        }
     }
 
     /// How many rows a table has, none where there is no such table.

@@ -111,12 +111,12 @@ lone-not e (x ∷ (y ∷ below)) h = refl
 cut-end : (size kind : ℕ) (bs : List ℕ) (first : bytes.First) → cut size kind bs ≡ Some first → (first .rest ≡ drop size bs) × (size ≤ length bs)
 cut-end size kind bs first e =
     ⊎-elim
-      (λ (h : (leb size (length bs) ≡ true) × (Some (record { kind = kind; body = take size bs; rest = drop size bs }) ≡ Some first)).
-        let k : Some (record { kind = kind; body = take size bs; rest = drop size bs }) ≡ Some first = h .1 in
-        let same : record { kind = kind; body = take size bs; rest = drop size bs } ≡ first = cc in
-        (sym (ap (λ (f : bytes.First). f .rest) same), leb-true size (length bs) (h .0)))
-      (λ (h : None ≡ Some first). let z : _≡_ {A = ℕ} 0 1 = cc in absurd (omega arith))
-      (cond-ways (leb size (length bs)) (Some (record { kind = kind; body = take size bs; rest = drop size bs })) None (Some first) e)
+    (λ (h : (leb size (length bs) ≡ true) × (Some (record { kind = kind; body = take size bs; rest = drop size bs }) ≡ Some first)).
+    let k : Some (record { kind = kind; body = take size bs; rest = drop size bs }) ≡ Some first = h .1 in
+    let same : record { kind = kind; body = take size bs; rest = drop size bs } ≡ first = cc in
+    (sym (ap (λ (f : bytes.First). f .rest) same), leb-true size (length bs) (h .0)))
+    (λ (h : None ≡ Some first). let z : _≡_ {A = ℕ} 0 1 = cc in absurd (omega arith))
+    (cond-ways (leb size (length bs)) (Some (record { kind = kind; body = take size bs; rest = drop size bs })) None (Some first) e)
 
 first-end : (bs : List ℕ) (first : bytes.First) → firstRecord bs ≡ Some first → drop (length bs - length (first .rest)) bs ≡ first .rest
 first-end [] first e = let z : _≡_ {A = ℕ} 0 1 = cc in absurd (omega arith)

@@ -68,12 +68,12 @@ drop-less n bytes = rw (length-drop n bytes) (omega arith)
 cut-less : (size kind : ℕ) (bytes : List ℕ) (first : First) → cut size kind bytes ≡ Some first → length (first .rest) ≤ length bytes
 cut-less size kind bytes first e =
     ⊎-elim
-      (λ (h : (leb size (length bytes) ≡ true) × (Some (record { kind = kind; body = take size bytes; rest = drop size bytes }) ≡ Some first)).
-        let k : Some (record { kind = kind; body = take size bytes; rest = drop size bytes }) ≡ Some first = h .1 in
-        let same : record { kind = kind; body = take size bytes; rest = drop size bytes } ≡ first = cc in
-        subst (λ (f : First). length (f .rest) ≤ length bytes) same (drop-less size bytes))
-      (λ (h : None ≡ Some first). let z : _≡_ {A = ℕ} 0 1 = cc in absurd (omega arith))
-      (cond-ways (leb size (length bytes)) (Some (record { kind = kind; body = take size bytes; rest = drop size bytes })) None (Some first) e)
+    (λ (h : (leb size (length bytes) ≡ true) × (Some (record { kind = kind; body = take size bytes; rest = drop size bytes }) ≡ Some first)).
+    let k : Some (record { kind = kind; body = take size bytes; rest = drop size bytes }) ≡ Some first = h .1 in
+    let same : record { kind = kind; body = take size bytes; rest = drop size bytes } ≡ first = cc in
+    subst (λ (f : First). length (f .rest) ≤ length bytes) same (drop-less size bytes))
+    (λ (h : None ≡ Some first). let z : _≡_ {A = ℕ} 0 1 = cc in absurd (omega arith))
+    (cond-ways (leb size (length bytes)) (Some (record { kind = kind; body = take size bytes; rest = drop size bytes })) None (Some first) e)
 
 pub first-less : (bytes : List ℕ) (first : First) → firstRecord bytes ≡ Some first → length (first .rest) < length bytes
 first-less [] first e = let z : _≡_ {A = ℕ} 0 1 = cc in absurd (omega arith)
@@ -160,12 +160,13 @@ module _ (e : Refusal) (p : Comparison → Bool) (c : Condition) where
   going-on rest t g f h =
       let a = after (g .more) (g .number) (g .stack) rest t (g .goes) f in
       let s = spelled-more e (t .term) (g .stack) (a .1 .0) (a .1 .1) in
-      record
-        { more = a .0
-        ; number = g .number + 1
-        ; stack = a .1 .0
-        ; goes = a .1 .2
-        ; passed = ap (every (passes p)) s ∙ every-last (passes p) (spelled (g .stack)) (t .term) h ∙ g .passed }
+      record {
+        more = a .0;
+        number = g .number + 1;
+        stack = a .1 .0;
+        goes = a .1 .2;
+        passed = ap (every (passes p)) s ∙ every-last (passes p) (spelled (g .stack)) (t .term) h ∙ g .passed;
+      }
 
   pub going-not : (rest : List ℕ) (t : FirstTerm) → Going e p c rest → firstTerm e rest ≡ done t → passes p (t .term) ≡ false → false ≡ everyComparison p c
   going-not rest t g f h =

@@ -152,15 +152,16 @@ module _ (columns : List (List Column)) (bytes : List ℕ) (plan : Plan) where
         let t = top-known x below plans p k in
         let a : everyComparison (namedComparison (kindsOf columns x)) c ≡ true = sym (e ∙ ap (λ ks. everyComparison (namedComparison ks) c) (t .0)) in
         let b : everyComparison (fittingComparison (kindsOf columns x)) c ≡ true = sym (f ∙ ap (λ ks. everyComparison (fittingComparison ks) c) (t .0)) in
-        record
-          { top = select c x
-          ; below = below
-          ; is = rw (a, b)
-          ; adds = sym (append-assoc (laid below) (nodes x) (select c x ∷ []))
-          ; said = refl
-          ; parted = (omega (arith, l, plans .counted, t .2), sym (ap (λ i. getD (laid (x ∷ below)) i (table 0)) l ∙ top-at x below (plan .count) (plans .counted)))
-          ; begins = omega (arith, s, t .1, length-append (laid below) (nodes x), length-push (nodes x) (select c x))
-          ; known = ap kindsIn d ∙ t .0 }
+        record {
+          top = select c x;
+          below = below;
+          is = rw (a, b);
+          adds = sym (append-assoc (laid below) (nodes x) (select c x ∷ []));
+          said = refl;
+          parted = (omega (arith, l, plans .counted, t .2), sym (ap (λ i. getD (laid (x ∷ below)) i (table 0)) l ∙ top-at x below (plan .count) (plans .counted)));
+          begins = omega (arith, s, t .1, length-append (laid below) (nodes x), length-push (nodes x) (select c x));
+          known = ap kindsIn d ∙ t .0;
+        }
 
   -- A projection.
   module _ (cs : List ℕ) where
@@ -180,15 +181,16 @@ module _ (columns : List (List Column)) (bytes : List ℕ) (plan : Plan) where
     project-grew (x ∷ below) k p step plans n e l s d =
         let t = top-known x below plans p k in
         let a : among (kindsOf columns x) cs ≡ true = sym (ap (λ ks. among ks cs) (t .0)) ∙ e in
-        record
-          { top = project cs x
-          ; below = below
-          ; is = rw a
-          ; adds = sym (append-assoc (laid below) (nodes x) (project cs x ∷ []))
-          ; said = refl
-          ; parted = (omega (arith, l, plans .counted, t .2), sym (ap (λ i. getD (laid (x ∷ below)) i (table 0)) l ∙ top-at x below (plan .count) (plans .counted)))
-          ; begins = omega (arith, s, t .1, length-append (laid below) (nodes x), length-push (nodes x) (project cs x))
-          ; known = d ∙ ap (λ ks. map (kindAt ks) cs) (t .0) }
+        record {
+          top = project cs x;
+          below = below;
+          is = rw a;
+          adds = sym (append-assoc (laid below) (nodes x) (project cs x ∷ []));
+          said = refl;
+          parted = (omega (arith, l, plans .counted, t .2), sym (ap (λ i. getD (laid (x ∷ below)) i (table 0)) l ∙ top-at x below (plan .count) (plans .counted)));
+          begins = omega (arith, s, t .1, length-append (laid below) (nodes x), length-push (nodes x) (project cs x));
+          known = d ∙ ap (λ ks. map (kindAt ks) cs) (t .0);
+        }
 
   -- two relations under one
   two-laid : (x y : Tree) (below : List Tree) (s : Tree) → laid below ++ ((nodes y ++ nodes x) ++ s ∷ []) ≡ ((laid below ++ nodes y) ++ nodes x) ++ s ∷ []
@@ -199,11 +201,12 @@ module _ (columns : List (List Column)) (bytes : List ℕ) (plan : Plan) where
       let l = length-append (laid (y ∷ below)) (nodes x) in
       let m = length-append (laid below) (nodes y) in
       let s = nodes-some x in
-      let r = nodes-some y in
-      ( omega arith
-      , sym (ap (λ i. getD (laid (x ∷ (y ∷ below))) i (table 0)) is ∙ second-at x y below)
-      , omega arith
-      , sym (top-at x (y ∷ below) (length (laid (x ∷ (y ∷ below)))) refl) )
+      let r = nodes-some y in (
+        omega arith,
+        sym (ap (λ i. getD (laid (x ∷ (y ∷ below))) i (table 0)) is ∙ second-at x y below),
+        omega arith,
+        sym (top-at x (y ∷ below) (length (laid (x ∷ (y ∷ below)))) refl),
+      )
 
   two-begins : (x y : Tree) (below : List Tree) (s : Tree) (start : ℕ) → nodes s ≡ (nodes y ++ nodes x) ++ s ∷ [] → start ≡ length (laid below) → start + length (nodes s) ≡ length (laid (x ∷ (y ∷ below))) + 1
   two-begins x y below s start n e =
@@ -233,15 +236,16 @@ module _ (columns : List (List Column)) (bytes : List ℕ) (plan : Plan) where
       let t = top-known x (y ∷ below) plans nowhere l in
       let u = second-known x y below plans left is p k in
       let a : leb (length (kindsOf columns y) + length (kindsOf columns x)) 8 ≡ true = le-leb _ _ (omega (arith, ap length (t .0), ap length (u .0), wide (getD (plan .kinds) left k), wide (getD (plan .kinds) (plan .count - 1) l))) in
-      record
-        { top = product y x
-        ; below = below
-        ; is = rw a
-        ; adds = two-laid x y below (product y x)
-        ; said = refl
-        ; parted = two-parted x y below (step .left) plans (f ∙ is)
-        ; begins = two-begins x y below (product y x) (step .start) refl (g ∙ u .1)
-        ; known = d ∙ ap (λ ks. ks ++ kindsIn (getD (plan .kinds) (plan .count - 1) l)) (u .0) ∙ ap (λ ks. kindsOf columns y ++ ks) (t .0) }
+      record {
+        top = product y x;
+        below = below;
+        is = rw a;
+        adds = two-laid x y below (product y x);
+        said = refl;
+        parted = two-parted x y below (step .left) plans (f ∙ is);
+        begins = two-begins x y below (product y x) (step .start) refl (g ∙ u .1);
+        known = d ∙ ap (λ ks. ks ++ kindsIn (getD (plan .kinds) (plan .count - 1) l)) (u .0) ∙ ap (λ ks. kindsOf columns y ++ ks) (t .0);
+      }
 
   -- A union and a difference.
 
@@ -268,15 +272,16 @@ module _ (columns : List (List Column)) (bytes : List ℕ) (plan : Plan) where
       let t = top-known x (y ∷ below) plans nowhere l in
       let u = second-known x y below plans left is p k in
       let a : pairwise sameKind (kindsOf columns y) (kindsOf columns x) ≡ true = sym (h ∙ ap (λ ks. pairwise sameKind ks (kindsIn (getD (plan .kinds) (plan .count - 1) l))) (u .0) ∙ ap (λ ks. pairwise sameKind (kindsOf columns y) ks) (t .0)) in
-      record
-        { top = union y x
-        ; below = below
-        ; is = rw a
-        ; adds = two-laid x y below (union y x)
-        ; said = refl
-        ; parted = two-parted x y below (step .left) plans (f ∙ is)
-        ; begins = two-begins x y below (union y x) (step .start) refl (g ∙ u .1)
-        ; known = ap kindsIn d ∙ u .0 }
+      record {
+        top = union y x;
+        below = below;
+        is = rw a;
+        adds = two-laid x y below (union y x);
+        said = refl;
+        parted = two-parted x y below (step .left) plans (f ∙ is);
+        begins = two-begins x y below (union y x) (step .start) refl (g ∙ u .1);
+        known = ap kindsIn d ∙ u .0;
+      }
 
   pub difference-short : (stack : List Tree) → SidesIs stack None → asked columns (plan .count) stack differenceRecord ≡ refuse (StackShort (plan .count))
   difference-short [] s = refl
@@ -301,15 +306,16 @@ module _ (columns : List (List Column)) (bytes : List ℕ) (plan : Plan) where
       let t = top-known x (y ∷ below) plans nowhere l in
       let u = second-known x y below plans left is p k in
       let a : pairwise sameKind (kindsOf columns y) (kindsOf columns x) ≡ true = sym (h ∙ ap (λ ks. pairwise sameKind ks (kindsIn (getD (plan .kinds) (plan .count - 1) l))) (u .0) ∙ ap (λ ks. pairwise sameKind (kindsOf columns y) ks) (t .0)) in
-      record
-        { top = difference y x
-        ; below = below
-        ; is = rw a
-        ; adds = two-laid x y below (difference y x)
-        ; said = refl
-        ; parted = two-parted x y below (step .left) plans (f ∙ is)
-        ; begins = two-begins x y below (difference y x) (step .start) refl (g ∙ u .1)
-        ; known = ap kindsIn d ∙ u .0 }
+      record {
+        top = difference y x;
+        below = below;
+        is = rw a;
+        adds = two-laid x y below (difference y x);
+        said = refl;
+        parted = two-parted x y below (step .left) plans (f ∙ is);
+        begins = two-begins x y below (difference y x) (step .start) refl (g ∙ u .1);
+        known = ap kindsIn d ∙ u .0;
+      }
 
 -- One more record in a plan.
 parted-more : (qs ys : List Tree) (i left : ℕ) (q : Tree) → i < length qs → Parted qs i left q → Parted (qs ++ ys) i left q
@@ -333,23 +339,25 @@ module _ (columns : List (List Column)) (bytes : List ℕ) where
   node-more : (qs ys : List Tree) (i : ℕ) (p : Position) (k : Kinds) → i < length qs → NodeOf columns bytes qs i p k → NodeOf columns bytes (qs ++ ys) i p k
   node-more qs ys i p k h n =
       let e : getD qs i (table 0) ≡ getD (qs ++ ys) i (table 0) = sym (getD-append-left qs ys (table 0) i h) in
-      record
-        { rest = n .rest
-        ; says = n .says ∙ ap (λ (q : Tree). done (record { says = recordOf q; rest = n .rest })) e
-        ; parted = subst (λ (q : Tree). Parted (qs ++ ys) i (p .left) q) e (parted-more qs ys i (p .left) (getD qs i (table 0)) h (n .parted))
-        ; begins = subst (λ (q : Tree). p .start + length (nodes q) ≡ i + 1) e (n .begins)
-        ; known = n .known ∙ ap (kindsOf columns) e }
+      record {
+        rest = n .rest;
+        says = n .says ∙ ap (λ (q : Tree). done (record { says = recordOf q; rest = n .rest })) e;
+        parted = subst (λ (q : Tree). Parted (qs ++ ys) i (p .left) q) e (parted-more qs ys i (p .left) (getD qs i (table 0)) h (n .parted));
+        begins = subst (λ (q : Tree). p .start + length (nodes q) ≡ i + 1) e (n .begins);
+        known = n .known ∙ ap (kindsOf columns) e;
+      }
 
   -- the new one
   node-last : (qs : List Tree) (q : Tree) (p : Position) (k : Kinds) (rest : List ℕ) → firstSaid (length qs) (drop (p .at) bytes) ≡ done (record { says = recordOf q; rest = rest }) → Parted qs (length qs) (p .left) q → p .start + length (nodes q) ≡ length qs + 1 → kindsIn k ≡ kindsOf columns q → NodeOf columns bytes (qs ++ q ∷ []) (length qs) p k
   node-last qs q p k rest s d b n =
       let e : q ≡ getD (qs ++ q ∷ []) (length qs) (table 0) = sym (getD-push qs q (table 0) (length qs) refl) in
-      record
-        { rest = rest
-        ; says = s ∙ ap (λ (x : Tree). done (record { says = recordOf x; rest = rest })) e
-        ; parted = subst (λ (x : Tree). Parted (qs ++ q ∷ []) (length qs) (p .left) x) e (parted-last qs (q ∷ []) (p .left) q d)
-        ; begins = subst (λ (x : Tree). p .start + length (nodes x) ≡ length qs + 1) e b
-        ; known = n ∙ ap (kindsOf columns) e }
+      record {
+        rest = rest;
+        says = s ∙ ap (λ (x : Tree). done (record { says = recordOf x; rest = rest })) e;
+        parted = subst (λ (x : Tree). Parted (qs ++ q ∷ []) (length qs) (p .left) x) e (parted-last qs (q ∷ []) (p .left) q d);
+        begins = subst (λ (x : Tree). p .start + length (nodes x) ≡ length qs + 1) e b;
+        known = n ∙ ap (kindsOf columns) e;
+      }
 
   pub plans-more :
       (before after : Plan) (stack : List Tree) (step : Step) (at : ℕ) (pos : Position) (says : Record) (rest : List ℕ) (o : Outcome (List Tree)) →
@@ -364,27 +372,28 @@ module _ (columns : List (List Column)) (bytes : List ℕ) where
       let qs : List Tree = laid stack in
       let q : Tree = grew .top in
       subst (λ (xs : List Tree). Plans columns bytes after xs) (sym (grew .adds))
-      (record
-        { counted = count ∙ ap (λ m. m + 1) n ∙ sym (length-push qs q)
-        ; each = λ i p k h.
+      (record {
+        counted = count ∙ ap (λ m. m + 1) n ∙ sym (length-push qs q);
+        each = λ i p k h.
             ⊎-elim
-              (λ (lt : i < length qs).
-                let ne : i ≢ before .count = λ e. omega arith in
-                let u : getD (before .positions) i p ≡ getD (after .positions) i p = sym (ap (λ xs. getD xs i p) ps ∙ getD-set-other (before .positions) (before .count) i pos p ne) in
-                let v : getD (before .kinds) i k ≡ getD (after .kinds) i k = sym (ap (λ xs. getD xs i k) ks ∙ getD-set-other (before .kinds) (before .count) i (step .kinds) k ne) in
-                subst (λ (x : Position). NodeOf columns bytes (qs ++ q ∷ []) i x (getD (after .kinds) i k)) u
-                (subst (λ (y : Kinds). NodeOf columns bytes (qs ++ q ∷ []) i (getD (before .positions) i p) y) v
-                (node-more qs (q ∷ []) i (getD (before .positions) i p) (getD (before .kinds) i k) lt (plans .each i p k lt))))
-              (λ (ge : length qs ≤ i).
-                let here : i ≡ length qs = omega (arith, h, length-push qs q) in
-                let at-count : i ≡ before .count = here ∙ sym n in
-                let u : pos ≡ getD (after .positions) i p = sym (ap (λ xs. getD xs i p) ps ∙ ap (λ j. getD (set (before .positions) (before .count) pos) j p) at-count ∙ getD-set-same (before .positions) (before .count) pos p (omega (arith, before .placed))) in
-                let v : step .kinds ≡ getD (after .kinds) i k = sym (ap (λ xs. getD xs i k) ks ∙ ap (λ j. getD (set (before .kinds) (before .count) (step .kinds)) j k) at-count ∙ getD-set-same (before .kinds) (before .count) (step .kinds) k (omega (arith, before .known))) in
-                let spoken : firstSaid (length qs) (drop (pos .at) bytes) ≡ done (record { says = recordOf q; rest = rest }) =
-                  ap (λ m. firstSaid m (drop (pos .at) bytes)) (sym n) ∙ ap (λ m. firstSaid (before .count) (drop m bytes)) a ∙ said ∙ ap (λ (r : Record). done (record { says = r; rest = rest })) (sym (grew .said)) in
-                let new : NodeOf columns bytes (qs ++ q ∷ []) (length qs) pos (step .kinds) =
-                  node-last qs q pos (step .kinds) rest spoken (subst (λ (m : ℕ). Parted qs (length qs) m q) (sym l) (grew .parted)) (ap (λ m. m + length (nodes q)) s ∙ grew .begins) (grew .known) in
-                subst (λ (x : Position). NodeOf columns bytes (qs ++ q ∷ []) i x (getD (after .kinds) i k)) u
-                (subst (λ (y : Kinds). NodeOf columns bytes (qs ++ q ∷ []) i pos y) v
-                (subst (λ (j : ℕ). NodeOf columns bytes (qs ++ q ∷ []) j pos (step .kinds)) (sym here) new)))
-              (cases-lt i (length qs)) })
+            (λ (lt : i < length qs).
+            let ne : i ≢ before .count = λ e. omega arith in
+            let u : getD (before .positions) i p ≡ getD (after .positions) i p = sym (ap (λ xs. getD xs i p) ps ∙ getD-set-other (before .positions) (before .count) i pos p ne) in
+            let v : getD (before .kinds) i k ≡ getD (after .kinds) i k = sym (ap (λ xs. getD xs i k) ks ∙ getD-set-other (before .kinds) (before .count) i (step .kinds) k ne) in
+            subst (λ (x : Position). NodeOf columns bytes (qs ++ q ∷ []) i x (getD (after .kinds) i k)) u
+            (subst (λ (y : Kinds). NodeOf columns bytes (qs ++ q ∷ []) i (getD (before .positions) i p) y) v
+            (node-more qs (q ∷ []) i (getD (before .positions) i p) (getD (before .kinds) i k) lt (plans .each i p k lt))))
+            (λ (ge : length qs ≤ i).
+            let here : i ≡ length qs = omega (arith, h, length-push qs q) in
+            let at-count : i ≡ before .count = here ∙ sym n in
+            let u : pos ≡ getD (after .positions) i p = sym (ap (λ xs. getD xs i p) ps ∙ ap (λ j. getD (set (before .positions) (before .count) pos) j p) at-count ∙ getD-set-same (before .positions) (before .count) pos p (omega (arith, before .placed))) in
+            let v : step .kinds ≡ getD (after .kinds) i k = sym (ap (λ xs. getD xs i k) ks ∙ ap (λ j. getD (set (before .kinds) (before .count) (step .kinds)) j k) at-count ∙ getD-set-same (before .kinds) (before .count) (step .kinds) k (omega (arith, before .known))) in
+            let spoken : firstSaid (length qs) (drop (pos .at) bytes) ≡ done (record { says = recordOf q; rest = rest }) =
+            ap (λ m. firstSaid m (drop (pos .at) bytes)) (sym n) ∙ ap (λ m. firstSaid (before .count) (drop m bytes)) a ∙ said ∙ ap (λ (r : Record). done (record { says = r; rest = rest })) (sym (grew .said)) in
+            let new : NodeOf columns bytes (qs ++ q ∷ []) (length qs) pos (step .kinds) =
+            node-last qs q pos (step .kinds) rest spoken (subst (λ (m : ℕ). Parted qs (length qs) m q) (sym l) (grew .parted)) (ap (λ m. m + length (nodes q)) s ∙ grew .begins) (grew .known) in
+            subst (λ (x : Position). NodeOf columns bytes (qs ++ q ∷ []) i x (getD (after .kinds) i k)) u
+            (subst (λ (y : Kinds). NodeOf columns bytes (qs ++ q ∷ []) i pos y) v
+            (subst (λ (j : ℕ). NodeOf columns bytes (qs ++ q ∷ []) j pos (step .kinds)) (sym here) new)))
+            (cases-lt i (length qs));
+      })

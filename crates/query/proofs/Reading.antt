@@ -30,11 +30,12 @@ module _ (n : ℕ) (s : List ℕ) (first : bytes.First) where
   pub said-passes : firstRecord s ≡ Some first → 1 ≤ first .kind → first .kind ≤ 6 → ((e : Refusal) → (r : Record) × (recordForm e (first .kind) (first .body) ≡ done r)) → (x : First) × (firstSaid n s ≡ done x)
   said-passes f l h formed =
       let r = formed (WrongForm n) in
-      let t : (leb 1 (first .kind) && leb (first .kind) 6) ≡ true = and-from _ _ (le-leb _ _ l) (le-leb _ _ h) in
-      ( record { says = r .0; rest = first .rest }
-      , ap (λ o. andThen (found o (BrokenRecord n)) form) f
-        ∙ ap (λ b. question b (UnknownRecord n) (andThen (recordForm (WrongForm n) (first .kind) (first .body)) (λ says. done (record { says = says; rest = first .rest })))) t
-        ∙ ap (λ o. andThen o (λ says. done (record { says = says; rest = first .rest }))) (r .1) )
+      let t : (leb 1 (first .kind) && leb (first .kind) 6) ≡ true = and-from _ _ (le-leb _ _ l) (le-leb _ _ h) in (
+        record { says = r .0; rest = first .rest },
+        ap (λ o. andThen (found o (BrokenRecord n)) form) f
+            ∙ ap (λ b. question b (UnknownRecord n) (andThen (recordForm (WrongForm n) (first .kind) (first .body)) (λ says. done (record { says = says; rest = first .rest })))) t
+            ∙ ap (λ o. andThen o (λ says. done (record { says = says; rest = first .rest }))) (r .1),
+      )
 
   pub said-reads : (x : First) → firstRecord s ≡ Some first → firstSaid n s ≡ done x → (recordForm (WrongForm n) (first .kind) (first .body) ≡ done (x .says)) × (first .rest ≡ x .rest)
   said-reads x f d =

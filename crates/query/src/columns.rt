@@ -7,7 +7,6 @@ ghost use Rattle.semantics.specs.Conditions.{kindAt};
 ghost use Rattle.semantics.specs.Kinds.{sameKind};
 ghost use Rattle.semantics.specs.Lists.{pairwise};
 ghost use Rattle.query.specs.Kinds.{kindsIn, PickedIs};
-
 use crate::kinds::Kinds;
 use semantics::Column;
 use semantics::Kind;
@@ -18,7 +17,10 @@ impl Kinds {
     pub(crate) fn none() -> Kinds
         ensures { λ r. ⌜ kindsIn r ≡ [] ⌝ }
     {
-        Kinds { list: [Kind::Number; 8], width: 0 }
+        Kinds {
+            list: [Kind::Number; 8],
+            width: 0,
+        }
     }
 
     /// The kinds of the columns.
@@ -33,7 +35,11 @@ impl Kinds {
         ensures { λ r. ⌜ r ≡ kindAt (kindsIn (now (self .entry))) column ⌝ }
     {
         let i = column as usize;
-        if i < self.width { self.list[i] } else { Kind::Number }
+        if i < self.width {
+            self.list[i]
+        } else {
+            Kind::Number
+        }
     }
 
     /// Whether there is a column of this number.

@@ -14,7 +14,6 @@ ghost use Rattle.semantics.specs.Records.{tableRecord, selectRecord, projectRec
 ghost use Rattle.book.specs.Books.{bookModel};
 ghost use Rattle.query.specs.Plans.{Plans, laid, asked, Grew, StepIs, SidesIs, lone};
 ghost use Rattle.query.specs.Saying.{firstSaid, Says, Short};
-
 use crate::condition::all_fitting;
 use crate::condition::all_named;
 use crate::kinds::Kinds;
@@ -38,7 +37,11 @@ fn table(table: u8, number: usize, book: &Book) -> Result<Step, Refusal>
         return Err(Refusal::NoSuchName(number as u8));
     }
     let kinds = Kinds::of_columns(book.columns(t));
-    Ok(Step { left: 0, start: number, kinds })
+    Ok(Step {
+        left: 0,
+        start: number,
+        kinds,
+    })
 }
 
 impl Plan {
@@ -59,7 +62,11 @@ impl Plan {
         if !all_fitting(body, &kinds) {
             return Err(Refusal::Unfit(place));
         }
-        Ok(Step { left: number - 1, start: position.start, kinds })
+        Ok(Step {
+            left: number - 1,
+            start: position.start,
+            kinds,
+        })
     }
 
     /// A projection of the last relation.
@@ -77,7 +84,11 @@ impl Plan {
         let Some(picked) = kinds.picked(listed) else {
             return Err(Refusal::NoSuchName(place));
         };
-        Ok(Step { left: number - 1, start: position.start, kinds: picked })
+        Ok(Step {
+            left: number - 1,
+            start: position.start,
+            kinds: picked,
+        })
     }
 
     /// The number of the left one of the last two relations, if there are two.
@@ -110,7 +121,11 @@ impl Plan {
             return Err(Refusal::ProductTooWide(place));
         }
         let position = self.positions[left];
-        Ok(Step { left, start: position.start, kinds: kinds.joined(&right) })
+        Ok(Step {
+            left,
+            start: position.start,
+            kinds: kinds.joined(&right),
+        })
     }
 
     /// The union or the difference of the last two relations.
@@ -128,7 +143,11 @@ impl Plan {
             return Err(Refusal::Unfit(place));
         }
         let position = self.positions[left];
-        Ok(Step { left, start: position.start, kinds })
+        Ok(Step {
+            left,
+            start: position.start,
+            kinds,
+        })
     }
 
     /// What a record adds to the plan, once the questions about its parts have passed.
@@ -161,8 +180,16 @@ impl Plan {
     pub(crate) fn empty() -> Plan
         ensures { λ r. ⌜ ((columns : List (List Column)) (bytes : List ℕ) → Plans columns bytes r []) ⌝ }
     {
-        let position = Position { at: 0, left: 0, start: 0 };
-        Plan { positions: [position; 15], kinds: [Kinds::none(); 15], count: 0 }
+        let position = Position {
+            at: 0,
+            left: 0,
+            start: 0,
+        };
+        Plan {
+            positions: [position; 15],
+            kinds: [Kinds::none(); 15],
+            count: 0,
+        }
     }
 
     /// Adds a record that begins at a byte.
@@ -172,7 +199,11 @@ impl Plan {
         ensures plans { λ _. ⌜ ((columns : List (List Column)) (bytes : List ℕ) (stack : List Tree) (says : records.Record) (rest : List ℕ) (o : Outcome (List Tree)) → Plans columns bytes (now (self .entry)) (laid stack) → (grew : Grew columns stack step says o) → firstSaid (now (self .entry) .count) (drop at bytes) ≡ done (record { says = says; rest = rest }) → Plans columns bytes (now (self .exit)) (laid (grew .top ∷ grew .below))) ⌝ }
     {
         let count = self.count;
-        self.positions[count] = Position { at, left: step.left, start: step.start };
+        self.positions[count] = Position {
+            at,
+            left: step.left,
+            start: step.start,
+        };
         self.kinds[count] = step.kinds;
         self.count = count + 1;
     }

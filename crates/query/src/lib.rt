@@ -8,8 +8,8 @@ mod kinds;
 mod plan;
 mod questions;
 mod reader;
-mod step;
 mod record;
+mod step;
 mod term;
 
 pub use kinds::Kinds;

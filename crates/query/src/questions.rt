@@ -2,7 +2,6 @@ ghost use mathlib.Core.Path.{_≡_};
 ghost use Rattle.semantics.specs.Reading.{questions, ReadsExactly, ReadsOneWay};
 ghost use Rattle.book.specs.Books.{bookModel};
 ghost use Rattle.query.specs.Plans.{Checks};
-
 use crate::plan::Plan;
 use crate::reader::Reader;
 use book::Book;

@@ -9,7 +9,6 @@ ghost use Rattle.semantics.specs.Outcomes.{done};
 ghost use Rattle.semantics.specs.Reading.{recordForm};
 ghost use Rattle.semantics.specs.Records as records;
 ghost use Rattle.query.specs.Saying.{Decided, Passes, First, firstSaid, Says, ReadAs};
-
 use crate::condition::is_condition;
 use crate::first::first_record;
 use crate::record::Record;

@@ -1,5 +1,4 @@
 ghost use Prim.Native.Nat.{_<_};
-
 use crate::kinds::Kinds;
 
 /// What a record adds to a plan: the number of its left or only part, the number of the first

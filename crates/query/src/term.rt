@@ -147,7 +147,11 @@ impl Term<'_> {
         ensures { λ r. ⌜ r ≡ passes (fittingComparison (kindsIn (now (kinds .entry)))) (termOf (self .entry)) ⌝ }
     {
         match self {
-            Term::ByColumn(operator, left, right) => compares(operator, kinds.at(left), kinds.at(right)),
+            Term::ByColumn(operator, left, right) => compares(
+                operator,
+                kinds.at(left),
+                kinds.at(right),
+            ),
             Term::ByNumber(operator, left, _) => compares(operator, kinds.at(left), Kind::Number),
             Term::ByPrefix(operator, left, _) => compares(operator, kinds.at(left), Kind::Prefix),
             _ => true,

@@ -14,7 +14,7 @@ abbrev pub Inv-loop-rest : given.InvT-loop-rest
 Inv-loop-rest l =
     (length (l .rest) ≤ length (l .query)) × (drop (length (l .query) - length (l .rest)) (l .query) ≡ l .rest) ×
     ((stack : List Tree) × Plans (bookModel (l .book) .columns) (l .query) (l .plan) (laid stack) ×
-      (walk queryFaults (recordStep (bookModel (l .book) .columns)) (15 - l .plan .count) (l .plan .count) stack (l .rest) ≡ walk queryFaults (recordStep (bookModel (l .book) .columns)) 15 0 [] (l .query)))
+    (walk queryFaults (recordStep (bookModel (l .book) .columns)) (15 - l .plan .count) (l .plan .count) stack (l .rest) ≡ walk queryFaults (recordStep (bookModel (l .book) .columns)) 15 0 [] (l .query)))
 
 abbrev pub μ-loop-rest : given.MeasureT-loop-rest
 μ-loop-rest l = 15 - l .plan .count

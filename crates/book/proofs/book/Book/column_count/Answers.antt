@@ -11,13 +11,15 @@ pub returns-then-table-lt4 : need.returns-then-table-lt4
 returns-then-table-lt4 c =
     let s = c .args .self .now in
     let e = getD (s .tables) (c .args .table) (c .index-self-table .result) in
-    record
-      { value = sym (ap length (columns-at (s .tables) (c .args .table) (c .index-self-table .result) (omega (arith, s .four))) ∙ length-take-le (e .width) (e .list) (omega (arith, e .short, e .eight)))
-      ; few = e .short }
+    record {
+      value = sym (ap length (columns-at (s .tables) (c .args .table) (c .index-self-table .result) (omega (arith, s .four))) ∙ length-take-le (e .width) (e .list) (omega (arith, e .short, e .eight)));
+      few = e .short;
+    }
 
 pub returns-else-table-lt4 : need.returns-else-table-lt4
 returns-else-table-lt4 c =
     let s = c .args .self .now in
-    record
-      { value = sym (ap length (getD-past (columnsIn (s .tables)) (c .args .table) [] (rw (length-map (s .tables) listed) (omega (arith, s .four)))))
-      ; few = omega arith }
+    record {
+      value = sym (ap length (getD-past (columnsIn (s .tables)) (c .args .table) [] (rw (length-map (s .tables) listed) (omega (arith, s .four)))));
+      few = omega arith;
+    }

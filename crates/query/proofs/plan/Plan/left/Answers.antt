@@ -14,7 +14,8 @@ returns-then-position-eq0 c =
 
 pub returns : need.returns
 returns c =
-    record
-      { sides = λ columns bytes stack plans. left-some columns bytes (c .args .self .now) stack (c .index-self-self .result) plans (c .if-self-eq0 .left) (c .if-position-eq0 .left)
-      ; within = omega (arith, getD (c .args .self .now .positions) (c .args .self .now .count - 1) (c .index-self-self .result) .low)
-      ; last = omega arith }
+    record {
+      sides = λ columns bytes stack plans. left-some columns bytes (c .args .self .now) stack (c .index-self-self .result) plans (c .if-self-eq0 .left) (c .if-position-eq0 .left);
+      within = omega (arith, getD (c .args .self .now .positions) (c .args .self .now .count - 1) (c .index-self-self .result) .low);
+      last = omega arith;
+    }
