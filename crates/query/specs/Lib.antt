@@ -1,0 +1,5 @@
+pub mod Firsts
+pub mod Terms
+pub mod Saying
+pub mod Kinds
+pub mod Plans
