@@ -10,7 +10,7 @@ use crate::prefix::Prefix;
 use semantics::Refusal;
 
 /// Whether each byte is the character of a decimal digit.
-fn all_digits(bytes: &[u8]) -> bool
+pub fn all_digits(bytes: &[u8]) -> bool
     ensures { λ r. ⌜ r ≡ every isDigit (now (bytes .entry)) ⌝ }
 {
     for byte in bytes {
