@@ -5,3 +5,4 @@ pub mod SeenKinds
 pub mod Bounded
 pub mod Samples
 pub mod NoRepeats
+pub mod Joinable

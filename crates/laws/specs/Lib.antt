@@ -6,3 +6,4 @@ pub mod Kinds
 pub mod Answers
 pub mod Repeats
 pub mod Sample
+pub mod Compatible

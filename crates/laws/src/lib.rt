@@ -1,6 +1,7 @@
 //! The laws of the definitions in `semantics`, each on the contract of a function, so that the check asks for its proof.
 
 mod answers;
+mod compatible;
 mod indistinguishable;
 mod kinds;
 mod orderly;
@@ -15,6 +16,9 @@ pub use answers::indistinguishable_books_give_same_answers;
 pub use answers::low_rows_are_high_rows;
 pub use answers::values_give_one_answer;
 pub use answers::wider_policies_sharpen;
+pub use compatible::compatible_examples;
+pub use compatible::compatible_in_every_book;
+pub use compatible::compatible_means_joinable;
 pub use indistinguishable::indistinguishable_books_have_equal_views;
 pub use kinds::views_keep_kinds;
 pub use orderly::calls_keep_books_orderly;

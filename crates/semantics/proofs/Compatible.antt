@@ -1,5 +1,5 @@
 -- What the groups of two rows are, and which rows are compatible.
-use mathlib.Core.Path.{_≡_, refl, sym, ap, ap₂, subst, subst₂, _∙_}
+use mathlib.Core.Path.{_≡_, refl, sym, ap, ap₂, subst, _∙_}
 use mathlib.Core.Bool.{Bool, true, false, cond, not, _&&_}
 use mathlib.Core.List.{List, [], _∷_, _++_, map, List·Memᴰ, List·Memᴰ·head, List·Memᴰ·tail, Memᴰ·append-left, Memᴰ·append-right, List·Memᴰ·append-cases, head-eq-of-cons-eq, tail-eq-of-cons-eq, cons≢nil, nil≢cons}
 use mathlib.Core.Logic.{_⊎_, inl, inr}
@@ -7,7 +7,7 @@ use Prim.Native.Nat.{ℕ, suc}
 use native.Mathlib.Omega.{arith}
 use lib.Dec.{eqb}
 use lib.ListN.{length}
-use Rattle.std.proofs.shelf.Tests.{and-parts, and-from, eqb-true, eqb-false, eq-eqb, ne-eqb, not-true, not-false, not-from-false, cases-bool, cases-eq, both-ways, cond-true, cond-false, false≢true}
+use Rattle.std.proofs.shelf.Tests.{and-parts, and-from, eqb-true, eqb-false, eq-eqb, ne-eqb, not-true, not-false, not-from-false, cases-bool, both-ways, cond-true, cond-both, false≢true}
 use Rattle.semantics.specs.Compatible.{differ, united, grouped, groupOf, compatible}
 use Rattle.semantics.specs.Faithful.{Faithful}
 use Rattle.semantics.specs.Lists.{every, pairwise}
@@ -15,22 +15,18 @@ use Rattle.semantics.specs.Standing.{StandsIn}
 use Rattle.semantics.specs.Values.{Value, sameValue}
 use Rattle.semantics.specs.Views.{Masked, value, variable, pseudonym}
 use Rattle.semantics.specs.Wider.{sameMasked}
+use Rattle.semantics.proofs.Domains.{every-mem}
 use Rattle.semantics.proofs.Masked.{same-masked, masked-self, masked-same}
-use Rattle.semantics.proofs.Member.{mem-map, mem-map-back, map-map}
-use Rattle.semantics.proofs.Values.{same-value, value-self, value-same}
+use Rattle.semantics.proofs.Member.{mem-map, map-map}
+use Rattle.semantics.proofs.Values.{same-value, value-self}
 
-is-false : (b : Bool) → (b ≡ true → ⊥) → b ≡ false
+pub is-false : (b : Bool) → (b ≡ true → ⊥) → b ≡ false
 is-false true h = absurd (h refl)
 is-false false h = refl
 
-module _ {A : Type 0} (p : A → Bool) where
-  pub every-member : {a : A} {xs : List A} → every p xs ≡ true → List·Memᴰ a xs → p a ≡ true
-  every-member e (List·Memᴰ·head {x = x} {xs = xs} h) = ap p h ∙ and-parts (p x) (every p xs) e .0
-  every-member e (List·Memᴰ·tail {x = x} {xs = xs} m) = every-member (and-parts (p x) (every p xs) e .1) m
-
-  pub every-members : (xs : List A) → ((a : A) → List·Memᴰ a xs → p a ≡ true) → every p xs ≡ true
-  every-members [] h = refl
-  every-members (x ∷ xs) h = and-from (p x) (every p xs) (h x (List·Memᴰ·head refl)) (every-members xs (λ a m. h a (List·Memᴰ·tail m)))
+pub every-members : {A : Type 0} (p : A → Bool) (xs : List A) → ((a : A) → List·Memᴰ a xs → p a ≡ true) → every p xs ≡ true
+every-members p [] h = refl
+every-members p (x ∷ xs) h = and-from (p x) (every p xs) (h x (List·Memᴰ·head refl)) (every-members p xs (λ a m. h a (List·Memᴰ·tail m)))
 
 -- rows that are the same cell by cell
 pub rows-same : (r s : List Masked) → pairwise sameMasked r s ≡ true → r ≡ s
@@ -57,36 +53,45 @@ united-second a b = go (sameMasked b a)
     go true = refl
     go false = refl
 
--- What two rows' groups become: a function that gives the two cells of each column one thing gives each group one.
+-- A function that makes the rows the same says of a cell what it says of its group.
 module _ {X : Type 0} (f : Masked → X) where
-  abbrev Constant : (Masked → Masked) → Type 0
-  Constant group = (a b : Masked) → group a ≡ group b → f a ≡ f b
-
-  united-constant : (group : Masked → Masked) (a b : Masked) → f a ≡ f b → Constant group → Constant (λ c. united (group a) (group b) (group c))
-  united-constant group a b e k c d = go (sameMasked (group c) (group a)) (sameMasked (group d) (group a)) refl refl
+  united-keeps : (a b c : Masked) → f a ≡ f b → f (united a b c) ≡ f c
+  united-keeps a b c e = go (sameMasked c a) refl
     where
-      go : (x y : Bool) → sameMasked (group c) (group a) ≡ x → sameMasked (group d) (group a) ≡ y
-          → cond x (group b) (group c) ≡ cond y (group b) (group d) → f c ≡ f d
-      go true true i j h = k c a (same-masked _ _ i) ∙ sym (k d a (same-masked _ _ j))
-      go true false i j h = k c a (same-masked _ _ i) ∙ e ∙ k b d h
-      go false true i j h = k c b h ∙ sym e ∙ sym (k d a (same-masked _ _ j))
-      go false false i j h = k c d h
+      go : (t : Bool) → sameMasked c a ≡ t → f (cond t b c) ≡ f c
+      go true h = sym e ∙ ap f (sym (same-masked c a h))
+      go false h = refl
 
-  grouped-constant : (group : Masked → Masked) (r s : List Masked) → map f r ≡ map f s → Constant group → Constant (grouped group r s)
-  grouped-constant group [] s e k = k
-  grouped-constant group (a ∷ r) [] e k = k
-  grouped-constant group (a ∷ r) (b ∷ s) e k =
-      grouped-constant (λ c. united (group a) (group b) (group c)) r s (tail-eq-of-cons-eq e)
-      (united-constant group a b (head-eq-of-cons-eq e) k)
+  grouped-keeps : (group : Masked → Masked) (r s : List Masked) → map f r ≡ map f s → ((a : Masked) → f (group a) ≡ f a) → (a : Masked) → f (grouped group r s a) ≡ f a
+  grouped-keeps group [] s e k = k
+  grouped-keeps group (a ∷ r) [] e k = k
+  grouped-keeps group (a ∷ r) (b ∷ s) e k =
+      grouped-keeps (λ c. united (group a) (group b) (group c)) r s (tail-eq-of-cons-eq e)
+      (λ c. united-keeps (group a) (group b) (group c) (k a ∙ head-eq-of-cons-eq e ∙ sym (k b)) ∙ k c)
+
+  pub group-keeps : (r s : List Masked) → map f r ≡ map f s → (a : Masked) → f (groupOf r s a) ≡ f a
+  group-keeps r s e = grouped-keeps (λ a. a) r s e (λ a. refl)
 
   pub group-constant : (r s : List Masked) → map f r ≡ map f s → (a b : Masked) → groupOf r s a ≡ groupOf r s b → f a ≡ f b
-  group-constant r s e = grouped-constant (λ a. a) r s e (λ a b h. ap f h)
+  group-constant r s e a b h = sym (group-keeps r s e a) ∙ ap f h ∙ group-keeps r s e b
+
+-- A group goes by the cell itself or by a cell of the second row.
+module _ (P : Masked → Type 0) where
+  grouped-within : (group : Masked → Masked) (r s : List Masked) → ((a : Masked) → List·Memᴰ a s → P a) → ((a : Masked) → P a → P (group a)) → (a : Masked) → P a → P (grouped group r s a)
+  grouped-within group [] s all k = k
+  grouped-within group (x ∷ r) [] all k = k
+  grouped-within group (x ∷ r) (y ∷ s) all k =
+      grouped-within (λ c. united (group x) (group y) (group c)) r s (λ a m. all a (List·Memᴰ·tail m))
+      (λ c p. cond-both (sameMasked (group c) (group x)) (group y) (group c) P (λ _. k y (all y (List·Memᴰ·head refl))) (λ _. k c p))
+
+  pub group-within : (r s : List Masked) → ((a : Masked) → List·Memᴰ a s → P a) → (a : Masked) → P a → P (groupOf r s a)
+  group-within r s all = grouped-within (λ a. a) r s all (λ a p. p)
 
 -- The two cells of each column are in one group.
-grouped-keeps : (group : Masked → Masked) (r s : List Masked) (a b : Masked) → group a ≡ group b → grouped group r s a ≡ grouped group r s b
-grouped-keeps group [] s a b e = e
-grouped-keeps group (x ∷ r) [] a b e = e
-grouped-keeps group (x ∷ r) (y ∷ s) a b e = grouped-keeps (λ c. united (group x) (group y) (group c)) r s a b (ap (united (group x) (group y)) e)
+grouped-still : (group : Masked → Masked) (r s : List Masked) (a b : Masked) → group a ≡ group b → grouped group r s a ≡ grouped group r s b
+grouped-still group [] s a b e = e
+grouped-still group (x ∷ r) [] a b e = e
+grouped-still group (x ∷ r) (y ∷ s) a b e = grouped-still (λ c. united (group x) (group y) (group c)) r s a b (ap (united (group x) (group y)) e)
 
 grouped-joins : (group : Masked → Masked) (r s : List Masked) → length r ≡ length s → map (grouped group r s) r ≡ map (grouped group r s) s
 grouped-joins group [] [] e = refl
@@ -94,7 +99,7 @@ grouped-joins group [] (y ∷ s) e = absurd (omega arith)
 grouped-joins group (x ∷ r) [] e = absurd (omega arith)
 grouped-joins group (x ∷ r) (y ∷ s) e =
     ap₂ _∷_
-    (grouped-keeps (λ c. united (group x) (group y) (group c)) r s x y (united-first (group x) (group y) ∙ sym (united-second (group x) (group y))))
+    (grouped-still (λ c. united (group x) (group y) (group c)) r s x y (united-first (group x) (group y) ∙ sym (united-second (group x) (group y))))
     (grouped-joins (λ c. united (group x) (group y) (group c)) r s (omega arith))
 
 pub group-joins : (r s : List Masked) → length r ≡ length s → map (groupOf r s) r ≡ map (groupOf r s) s
@@ -116,7 +121,7 @@ compatible-consistent r s e =
       alike = λ a b m n g.
           is-false (differ a b) (λ d.
           both-ways (differ a b && sameMasked (groupOf r s a) (groupOf r s b))
-          (not-true _ (every-member (fine r s a) (every-member (λ c. every (fine r s c) (r ++ s)) (h .1) m) n))
+          (not-true _ (every-mem (fine r s a) (r ++ s) (every-mem (λ c. every (fine r s c) (r ++ s)) (r ++ s) (h .1) m) n))
           (and-from (differ a b) (sameMasked (groupOf r s a) (groupOf r s b)) d (masked-same _ _ g)));
     }
 
@@ -228,3 +233,41 @@ module _ (tables : List (List (List Masked))) (change : Masked → Masked) (fait
       moved : {a : Masked} → List·Memᴰ a (r ++ s) → List·Memᴰ (change a) (map change r ++ map change s)
       moved {a} m = let h : List·Memᴰ a r ⊎ List·Memᴰ a s = List·Memᴰ·append-cases r m in
           elim h [ inl k ↦ Memᴰ·append-left (map change s) (mem-map change k) | inr k ↦ Memᴰ·append-right (map change r) (mem-map change k) ]
+
+-- Cells that stand in neither row are alone in their groups, so no two cells of a group differ, wherever they stand.
+absent-more : (a x : Masked) (cells : List Masked) → sameMasked a x ≡ false → ((c : Masked) → List·Memᴰ c cells → sameMasked a c ≡ false) → (c : Masked) → List·Memᴰ c (x ∷ cells) → sameMasked a c ≡ false
+absent-more a x cells e h c (List·Memᴰ·head p) = ap (sameMasked a) p ∙ e
+absent-more a x cells e h c (List·Memᴰ·tail m) = h c m
+
+member : (a : Masked) (cells : List Masked) → List·Memᴰ a cells ⊎ ((c : Masked) → List·Memᴰ c cells → sameMasked a c ≡ false)
+member a [] = inr (λ c m. elim m [ ])
+member a (x ∷ cells) = go (cases-bool (sameMasked a x)) (member a cells)
+  where
+    go : (sameMasked a x ≡ true) ⊎ (sameMasked a x ≡ false) → List·Memᴰ a cells ⊎ ((c : Masked) → List·Memᴰ c cells → sameMasked a c ≡ false)
+        → List·Memᴰ a (x ∷ cells) ⊎ ((c : Masked) → List·Memᴰ c (x ∷ cells) → sameMasked a c ≡ false)
+    go (inl e) h = inl (List·Memᴰ·head (same-masked a x e))
+    go (inr e) (inl m) = inl (List·Memᴰ·tail m)
+    go (inr e) (inr h) = inr (absent-more a x cells e h)
+
+map-none : (f : Masked → Bool) (r s : List Masked) → length r ≡ length s → ((a : Masked) → List·Memᴰ a r → f a ≡ false) → ((a : Masked) → List·Memᴰ a s → f a ≡ false) → map f r ≡ map f s
+map-none f [] [] e p q = refl
+map-none f [] (y ∷ s) e p q = absurd (omega arith)
+map-none f (x ∷ r) [] e p q = absurd (omega arith)
+map-none f (x ∷ r) (y ∷ s) e p q =
+    ap₂ _∷_ (p x (List·Memᴰ·head refl) ∙ sym (q y (List·Memᴰ·head refl)))
+    (map-none f r s (omega arith) (λ a m. p a (List·Memᴰ·tail m)) (λ a m. q a (List·Memᴰ·tail m)))
+
+module _ (r s : List Masked) (k : Consistent r s) where
+  alone : (a b : Masked) → ((c : Masked) → List·Memᴰ c (r ++ s) → sameMasked a c ≡ false) → groupOf r s a ≡ groupOf r s b → a ≡ b
+  alone a b h g =
+      same-masked a b
+      (sym (group-constant (sameMasked a) r s (map-none (sameMasked a) r s (k .long) (λ c m. h c (Memᴰ·append-left s m)) (λ c m. h c (Memᴰ·append-right r m))) a b g)
+      ∙ masked-self a)
+
+  pub group-alike : (a b : Masked) → groupOf r s a ≡ groupOf r s b → differ a b ≡ false
+  group-alike a b g = go (member a (r ++ s)) (member b (r ++ s))
+    where
+      go : List·Memᴰ a (r ++ s) ⊎ ((c : Masked) → List·Memᴰ c (r ++ s) → sameMasked a c ≡ false) → List·Memᴰ b (r ++ s) ⊎ ((c : Masked) → List·Memᴰ c (r ++ s) → sameMasked b c ≡ false) → differ a b ≡ false
+      go (inl m) (inl n) = k .alike a b m n g
+      go (inl m) (inr n) = differ-same a b (sym (alone b a n (sym g)))
+      go (inr m) y = differ-same a b (alone a b m g)

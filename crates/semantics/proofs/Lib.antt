@@ -27,3 +27,5 @@ pub mod LowHigh
 pub mod Refinement
 pub mod Exact
 pub mod Repeats
+pub mod Fresh
+pub mod Joined

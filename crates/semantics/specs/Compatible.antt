@@ -1,9 +1,14 @@
 -- Rows of a view that may be the same row.
+use mathlib.Core.Path.{_≡_}
 use mathlib.Core.Bool.{Bool, true, false, cond, not, _&&_}
-use mathlib.Core.List.{List, [], _∷_, _++_}
-use lib.Dec.{eqb}
+use mathlib.Core.List.{List, [], _∷_, _++_, map, List·Memᴰ}
+use lib.Dec.{eqb, leb}
 use lib.ListN.{length}
+use Rattle.std.specs.shelf.Lists.{joined}
+use Rattle.semantics.specs.declared.kind.Column.{Column}
 use Rattle.semantics.specs.Lists.{every}
+use Rattle.semantics.specs.Standing.{StandsIn}
+use Rattle.semantics.specs.Valuations.{Valuation, valued, isProper, maskedKind}
 use Rattle.semantics.specs.Values.{sameValue}
 use Rattle.semantics.specs.Views.{Masked, value, variable, pseudonym}
 use Rattle.semantics.specs.Wider.{sameMasked}
@@ -37,3 +42,26 @@ abbrev pub compatible : List Masked → List Masked → Bool
 compatible r s =
     eqb (length r) (length s)
     && every (λ a. every (λ b. not (differ a b && sameMasked (groupOf r s a) (groupOf r s b))) (r ++ s)) (r ++ s)
+
+-- The valuation makes the two rows the same row.
+abbrev pub JoinedBy : Valuation → List Masked → List Masked → Type 0
+JoinedBy x r s = map (valued x) r ≡ map (valued x) s
+
+-- The two rows are over the tables of a view: their cells stand there, and their kinds agree column by column.
+pub record RowsOver (columns : List (List Column)) (tables : List (List (List Masked))) (r s : List Masked) : Type 0 where
+  pub leftStands : (a : Masked) → List·Memᴰ a r → StandsIn tables a
+  pub rightStands : (a : Masked) → List·Memᴰ a s → StandsIn tables a
+  pub sameKinds : map (maskedKind columns) r ≡ map (maskedKind columns) s
+
+-- All cells of the tables of a view. A book has at most 4 tables of 256 rows of 8 columns.
+abbrev pub cellsOf : List (List (List Masked)) → List Masked
+cellsOf tables = joined (λ rows. joined (λ cells. cells) rows) tables
+
+abbrev pub fewCells : List (List (List Masked)) → Bool
+fewCells tables = leb (length (cellsOf tables)) 8192
+
+-- Is the cell, where it is a value, a value of some kind? Every value that memory can hold is.
+abbrev pub properCell : Masked → Bool
+properCell (value v) = isProper v
+properCell (variable t r c) = true
+properCell (pseudonym d n) = true
