@@ -4,10 +4,8 @@ use mathlib.Core.Bool.{true, false}
 use mathlib.Core.List.{List, [], _∷_}
 use Prim.Native.Nat.{ℕ}
 use Rattle.std.specs.declared.option.Option.the-variants.{Some, None}
-use Rattle.semantics.specs.declared.kind.Column.{Column}
 use Rattle.semantics.specs.declared.kind.Kind.the-variants.{Number, Prefix}
 use Rattle.semantics.specs.declared.operator.Operator.the-variants.{Equal, Unequal, Covers, Shorter}
-use Rattle.semantics.specs.declared.rule.Rule.{Rule}
 use Rattle.semantics.specs.declared.rule.Sign.the-variants.{Allow, Prohibit}
 use Rattle.semantics.specs.declared.rule.Test.the-variants.{Always, Holds}
 use Rattle.semantics.specs.Answers.{certain, possible, overflow}

@@ -29,3 +29,4 @@ pub mod Exact
 pub mod Repeats
 pub mod Fresh
 pub mod Joined
+pub mod Pushes

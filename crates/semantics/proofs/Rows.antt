@@ -2,7 +2,7 @@
 use mathlib.Core.Path.{_≡_, refl, sym, ap, ap₂, _∙_}
 use mathlib.Core.Bool.{Bool, true, false, not, _||_}
 use mathlib.Core.List.{List, [], _∷_, _++_, map, List·Memᴰ, List·Memᴰ·head, List·Memᴰ·tail}
-use Rattle.std.specs.shelf.Lists.{joined, kept-by}
+use Rattle.std.specs.shelf.Lists.{kept-by}
 use Rattle.std.proofs.shelf.Tests.{or-parts, not-true, both-ways, false≢true}
 use Rattle.semantics.specs.Answers.{sameRow, withoutRepeats, paired}
 use Rattle.semantics.specs.Lists.{some}
