@@ -1,8 +1,8 @@
 -- Compatible rows are those that a lawful valuation makes the same, in the view of every book.
-use mathlib.Core.Path.{_≡_, refl, sym, ap, subst, _∙_}
-use mathlib.Core.Bool.{Bool, true, false}
-use mathlib.Core.List.{List, [], _∷_, _++_, map, List·Memᴰ, List·Memᴰ·head, List·Memᴰ·tail}
-use Prim.Native.Nat.{ℕ, zero, suc, _+_, _<_, _≤_}
+use mathlib.Core.Path.{_≡_, refl, sym, subst}
+use mathlib.Core.Bool.{true}
+use mathlib.Core.List.{List, [], _∷_, _++_, List·Memᴰ, List·Memᴰ·head, List·Memᴰ·tail}
+use Prim.Native.Nat.{ℕ, zero, suc, _+_, _≤_}
 use native.Mathlib.Omega.{arith}
 use lib.Dec.{leb}
 use lib.ListN.{length}
@@ -14,9 +14,10 @@ use Rattle.semantics.specs.declared.kind.Kind.{Kind}
 use Rattle.semantics.specs.declared.kind.Kind.the-variants.{Number, Prefix}
 use Rattle.semantics.specs.declared.mark.Mark.{Mark}
 use Rattle.semantics.specs.Books.{Model, columnsOf, rowsOf, columnAt}
-use Rattle.semantics.specs.Compatible.{compatible, cellsOf, fewCells, properCell}
-use Rattle.semantics.specs.Lists.{every, tabled}
+use Rattle.semantics.specs.Compatible.{cellsOf, fewCells, properCell}
+use Rattle.semantics.specs.Lists.{every}
 use Rattle.semantics.specs.Orderly.{Orderly}
+use Rattle.semantics.specs.Small.{Small}
 use Rattle.semantics.specs.Standing.{StandsIn, HasCell}
 use Rattle.semantics.specs.Valuations.{isValueOf, isProper}
 use Rattle.semantics.specs.Values.{Value, number, prefix}
@@ -86,9 +87,9 @@ module _ (m : Model) (good : Orderly m) (mark : Place → Mark) where
       let h = standing mark m (cells-stand (drawn mark m) i) in
       subst (λ b. properCell b ≡ true) (h .2) (sight-proper (h .0) (h .1) (sight mark m (h .0))))
 
-  module _ (short : m .limit ≤ 256) (narrow : every (λ columns. leb (length columns) 8) (m .columns) ≡ true) where
+  module _ (small : Small m) where
     columns-few : (t : ℕ) → length (columnsOf m t) ≤ 8
-    columns-few t = leb-true _ _ (every-getD (λ columns. leb (length columns) 8) (m .columns) t [] refl narrow)
+    columns-few t = leb-true _ _ (every-getD (λ table. leb (length table) 8) (m .columns) t [] refl (small .fewColumns))
 
     table-few : (t : ℕ) → length (joined (λ cells. cells) (tableSeen mark m t)) ≤ times 256 8
     table-few t =
@@ -107,5 +108,5 @@ module _ (m : Model) (good : Orderly m) (mark : Place → Mark) where
         subst (λ l. length (joined (λ cells. cells) l) ≤ times 256 8) (sym (h .2)) (table-few (h .0))))
 
 pub compatible-in-book : CompatibleInEveryBook
-compatible-in-book m good short narrow mark r s over =
-    compatible-joinable (m .columns) (drawn mark m) (view-few m good mark short narrow) (view-proper m good mark) r s over
+compatible-in-book m good small mark r s over =
+    compatible-joinable (m .columns) (drawn mark m) (view-few m good mark small) (view-proper m good mark) r s over

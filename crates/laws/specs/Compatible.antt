@@ -1,17 +1,15 @@
 -- Which rows of a view may be the same row.
 use mathlib.Core.Path.{_≡_}
-use mathlib.Core.Bool.{Bool, true, false}
+use mathlib.Core.Bool.{true, false}
 use mathlib.Core.List.{List, [], _∷_}
 use mathlib.Core.Logic.{_↔_}
-use Prim.Native.Nat.{_≤_}
-use lib.Dec.{leb}
-use lib.ListN.{length}
 use Rattle.semantics.specs.declared.kind.Column.{Column}
 use Rattle.semantics.specs.declared.mark.Mark.{Mark}
 use Rattle.semantics.specs.Books.{Model}
 use Rattle.semantics.specs.Compatible.{compatible, JoinedBy, RowsOver, cellsOf, fewCells, properCell}
 use Rattle.semantics.specs.Lists.{every}
 use Rattle.semantics.specs.Orderly.{Orderly}
+use Rattle.semantics.specs.Small.{Small}
 use Rattle.semantics.specs.Valuations.{Valuation, LawfulFor}
 use Rattle.semantics.specs.Values.{number}
 use Rattle.semantics.specs.Views.{Masked, value, variable, pseudonym, Place, drawn}
@@ -28,13 +26,14 @@ CompatibleMeansJoinable =
     (columns : List (List Column)) (tables : List (List (List Masked))) → fewCells tables ≡ true → every properCell (cellsOf tables) ≡ true
     → (r s : List Masked) → RowsOver columns tables r s → (compatible r s ≡ true) ↔ Joinable columns tables r s
 
--- So it is for the rows over the view of a book of at most 256 rows and 8 columns a table, under any marks.
+-- So it is for rows over the view of every orderly and small book, under any marks.
+-- Were there fewer values of a kind than symbols in a view, the symbols left over would have no values of their own, and this would fail.
 abbrev pub CompatibleInEveryBook : Type 0
 CompatibleInEveryBook =
-    (m : Model) → Orderly m → m .limit ≤ 256 → every (λ columns. leb (length columns) 8) (m .columns) ≡ true
-    → (mark : Place → Mark) (r s : List Masked) → RowsOver (m .columns) (drawn mark m) r s → (compatible r s ≡ true) ↔ Joinable (m .columns) (drawn mark m) r s
+    (m : Model) → Orderly m → Small m → (mark : Place → Mark) (r s : List Masked) → RowsOver (m .columns) (drawn mark m) r s
+    → (compatible r s ≡ true) ↔ Joinable (m .columns) (drawn mark m) r s
 
--- A variable, two pseudonyms of a domain and one of another, and the value of a number.
+-- Two variables, two pseudonyms of one domain, and one of another.
 abbrev v : Masked
 v = variable 0 0 0
 
@@ -50,10 +49,11 @@ q = pseudonym 1 1
 abbrev o : Masked
 o = pseudonym 2 0
 
+-- A row of two cells.
 abbrev pair : Masked → Masked → List Masked
 pair a b = a ∷ b ∷ []
 
--- What the test says of some pairs of rows.
+-- What the test says of some rows. Column by column, the first four pairs of rows would pass.
 pub record CompatibleExamples : Type 0 where
   pub twoValuesForOne : compatible (pair v v) (pair (value (number 1)) (value (number 2))) ≡ false
   pub oneValueForTwo : compatible (pair p q) (pair (value (number 47)) (value (number 47))) ≡ false

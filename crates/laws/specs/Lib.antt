@@ -7,3 +7,4 @@ pub mod Answers
 pub mod Repeats
 pub mod Sample
 pub mod Compatible
+pub mod Small

@@ -7,6 +7,7 @@ mod kinds;
 mod orderly;
 mod repeats;
 mod sample;
+mod small;
 mod valuations;
 mod wider;
 
@@ -25,6 +26,7 @@ pub use orderly::calls_keep_books_orderly;
 pub use repeats::answers_have_no_repeats;
 pub use sample::sample_answers;
 pub use sample::sample_comparisons;
+pub use small::calls_keep_books_small;
 pub use valuations::lawful_valuations_are_faithful;
 pub use valuations::own_values_are_a_lawful_valuation;
 pub use wider::translation_gives_the_wider_view;

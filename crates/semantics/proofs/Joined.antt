@@ -1,11 +1,11 @@
 -- Rows over a view are compatible just when a lawful valuation of the view makes them the same.
 use mathlib.Core.Path.{_≡_, refl, sym, ap, subst, _∙_}
-use mathlib.Core.Bool.{Bool, true, false, cond, not, _&&_}
+use mathlib.Core.Bool.{Bool, true, false, cond}
 use mathlib.Core.List.{List, [], _∷_, _++_, map, List·Memᴰ, List·Memᴰ·head, List·Memᴰ·tail, Memᴰ·append-left, Memᴰ·append-right, List·Memᴰ·append-cases}
 use mathlib.Core.Logic.{_⊎_, inl, inr}
 use Prim.Native.Nat.{ℕ, _<_}
 use native.Mathlib.Omega.{arith}
-use lib.Dec.{eqb, leb}
+use lib.Dec.{eqb}
 use lib.ListN.{length}
 use Rattle.std.specs.shelf.Lists.{joined}
 use Rattle.std.proofs.shelf.Lists.{length-map}
@@ -14,8 +14,8 @@ use Rattle.semantics.specs.declared.kind.Column.{Column}
 use Rattle.semantics.specs.Compatible.{differ, groupOf, compatible, JoinedBy, RowsOver, cellsOf, fewCells, properCell}
 use Rattle.semantics.specs.Lists.{every}
 use Rattle.semantics.specs.Standing.{StandsIn}
-use Rattle.semantics.specs.Valuations.{Valuation, LawfulFor, valued, isValueOf, isProper, maskedKind}
-use Rattle.semantics.specs.Values.{Value, kindOf, sameValue}
+use Rattle.semantics.specs.Valuations.{Valuation, LawfulFor, valued, isValueOf, maskedKind}
+use Rattle.semantics.specs.Values.{Value, sameValue}
 use Rattle.semantics.specs.Views.{Masked, value, variable, pseudonym}
 use Rattle.semantics.specs.Wider.{sameMasked}
 use Rattle.semantics.proofs.Compatible.{Consistent, compatible-self, compatible-consistent, compatible-before, group-keeps, group-within, group-joins, group-alike}

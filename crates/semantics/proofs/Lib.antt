@@ -30,3 +30,4 @@ pub mod Repeats
 pub mod Fresh
 pub mod Joined
 pub mod Pushes
+pub mod Small

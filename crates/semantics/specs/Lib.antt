@@ -13,6 +13,7 @@ pub mod Indistinguishable
 pub mod Faithful
 pub mod Wider
 pub mod Valuations
+pub mod Small
 pub mod Compatible
 pub mod Orderly
 pub mod Operators
