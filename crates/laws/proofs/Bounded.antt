@@ -1,12 +1,9 @@
 -- The laws of answers, from what holds of low and high under every faithful change.
-use mathlib.Core.Path.{_≡_, refl, sym, ap, subst}
+use mathlib.Core.Path.{_≡_, sym, ap, subst}
 use mathlib.Core.List.{List, map, List·Memᴰ}
-use Prim.Native.Nat.{ℕ}
-use Rattle.semantics.specs.declared.kind.Column.{Column}
 use Rattle.semantics.specs.Answers.{low, high, certain, possible, unmasked, overflow}
-use Rattle.semantics.specs.Faithful.{Faithful, changed}
+use Rattle.semantics.specs.Faithful.{changed}
 use Rattle.semantics.specs.Queries.{Tree}
-use Rattle.semantics.specs.Standing.{StandsIn}
 use Rattle.semantics.specs.Valuations.{Valuation, valued}
 use Rattle.semantics.specs.Values.{Value}
 use Rattle.semantics.specs.Views.{Masked, value, marks, view}

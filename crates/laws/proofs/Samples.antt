@@ -22,6 +22,7 @@ pub sample-comparisons : SampleComparisons
 sample-comparisons = record {
   emptyCovers = refl;
   longerCoversNot = refl;
-  oneVariableTwoNumbers = refl;
-  twoPseudonymsOnePrefix = refl;
+  coversItself = refl;
+  variablesMayBeEqual = refl;
+  pseudonymsAreNot = refl;
 }

@@ -1,23 +1,20 @@
 -- A small book of three tariffs, what two brokers see of it, and answers to queries, worked by hand.
 use mathlib.Core.Path.{_≡_}
-use mathlib.Core.Bool.{Bool, true, false}
+use mathlib.Core.Bool.{true, false}
 use mathlib.Core.List.{List, [], _∷_}
 use Prim.Native.Nat.{ℕ}
 use Rattle.std.specs.declared.option.Option.the-variants.{Some, None}
-use Rattle.semantics.specs.declared.kind.Column.{Column}
 use Rattle.semantics.specs.declared.kind.Kind.the-variants.{Number, Prefix}
-use Rattle.semantics.specs.declared.operator.Operator.the-variants.{Equal, Covers, Shorter}
-use Rattle.semantics.specs.declared.rule.Rule.{Rule}
+use Rattle.semantics.specs.declared.operator.Operator.the-variants.{Equal, Unequal, Covers, Shorter}
 use Rattle.semantics.specs.declared.rule.Sign.the-variants.{Allow, Prohibit}
 use Rattle.semantics.specs.declared.rule.Test.the-variants.{Always, Holds}
 use Rattle.semantics.specs.Answers.{certain, possible, overflow}
 use Rattle.semantics.specs.Books.{Model}
-use Rattle.semantics.specs.Compatible.{compatible}
 use Rattle.semantics.specs.Conditions.{byColumn, byPrefix, compared}
 use Rattle.semantics.specs.Policies.{Meaning, filtersMean}
 use Rattle.semantics.specs.Queries.{Tree, table, select, project, product, difference}
-use Rattle.semantics.specs.Truths.{plainly}
-use Rattle.semantics.specs.Values.{Value, number, prefix}
+use Rattle.semantics.specs.Truths.{holds, unknown, plainly, compare}
+use Rattle.semantics.specs.Values.{number, prefix}
 use Rattle.semantics.specs.Views.{Masked, value, variable, pseudonym, view}
 
 -- The digits of some prefixes, as the codes of their characters.
@@ -100,12 +97,11 @@ pub record SampleAnswers : Type 0 where
   pub threeRowsAreNot : overflow 3 seenBy7 longest ≡ Some 6
   pub twoRowsAreNot : overflow 2 seenBy7 (project (1 ∷ 2 ∷ []) (table 0)) ≡ Some 0
 
--- Comparisons and compatible rows.
--- Were covering to ask whether the left begins with the right, or rows to be asked column by column, this would fail.
+-- Comparisons.
+-- Were covering to ask whether the left begins with the right, or different variables known to differ, this would fail.
 pub record SampleComparisons : Type 0 where
   pub emptyCovers : plainly Covers (prefix []) (prefix d4711) ≡ true
   pub longerCoversNot : plainly Covers (prefix d4711) (prefix d47) ≡ false
-  pub oneVariableTwoNumbers :
-      compatible (variable 0 1 0 ∷ variable 0 1 0 ∷ []) (value (number 1) ∷ value (number 2) ∷ []) ≡ false
-  pub twoPseudonymsOnePrefix :
-      compatible (pseudonym 1 0 ∷ pseudonym 1 1 ∷ []) (value (prefix d47) ∷ value (prefix d47) ∷ []) ≡ false
+  pub coversItself : plainly Covers (prefix d47) (prefix d47) ≡ true
+  pub variablesMayBeEqual : compare Unequal (variable 0 0 0) (variable 0 1 0) ≡ unknown
+  pub pseudonymsAreNot : compare Unequal (pseudonym 1 0) (pseudonym 1 1) ≡ holds

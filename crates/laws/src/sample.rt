@@ -5,7 +5,7 @@ pub fn sample_answers()
     ensures { λ _. ⌜ SampleAnswers ⌝ }
 {}
 
-/// Comparisons and compatible rows are the ones worked by hand.
+/// Comparisons are the ones worked by hand.
 pub fn sample_comparisons()
     ensures { λ _. ⌜ SampleComparisons ⌝ }
 {}

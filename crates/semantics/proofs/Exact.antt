@@ -12,8 +12,7 @@ use Rattle.semantics.specs.Lists.{some}
 use Rattle.semantics.specs.Queries.{Tree, table, select, project, product, union, difference}
 use Rattle.semantics.specs.Standing.{StandsIn}
 use Rattle.semantics.specs.Truths.{Truth, both, either, opposite, known, plainly, compare, cellAt, comparisonTruth, truth, isTrue, mayBeTrue}
-use Rattle.semantics.specs.Values.{number, prefix}
-use Rattle.semantics.specs.Views.{Masked, value}
+use Rattle.semantics.specs.Views.{Masked}
 use Rattle.semantics.proofs.Compatible.{IsValue, is-value, compatible-values}
 use Rattle.semantics.proofs.LowHigh.{cell-has, high-has}
 use Rattle.semantics.proofs.Member.{kept-agree}

@@ -29,4 +29,5 @@ pub mod Exact
 pub mod Repeats
 pub mod Fresh
 pub mod Joined
+pub mod Pushes
 pub mod Small

@@ -1,5 +1,5 @@
 -- The low answer lies in the high one, and the cells of answers are cells of the tables.
-use mathlib.Core.Path.{_≡_, refl, sym, ap, ap₂, subst, _∙_}
+use mathlib.Core.Path.{_≡_, refl, sym, ap, subst}
 use mathlib.Core.Bool.{Bool, true, false, not}
 use mathlib.Core.List.{List, [], _∷_, _++_, map, List·Memᴰ, List·Memᴰ·head, List·Memᴰ·tail, Memᴰ·append-left, Memᴰ·append-right, List·Memᴰ·append-cases, Memᴰ·cast}
 use mathlib.Core.Logic.{_⊎_, inl, inr}
@@ -13,9 +13,9 @@ use Rattle.semantics.specs.Standing.{StandsIn}
 use Rattle.semantics.specs.Truths.{truth, isTrue, mayBeTrue, cellAt}
 use Rattle.semantics.specs.Values.{Value, number}
 use Rattle.semantics.specs.Views.{Masked, value}
-use Rattle.semantics.proofs.Compatible.{compatible-self}
+use Rattle.semantics.proofs.Compatible.{rows-same, compatible-self}
 use Rattle.semantics.proofs.Member.{mem-map, mem-map-back, mem-kept, mem-kept-back}
-use Rattle.semantics.proofs.Rows.{same-row, not-some, not-some-back, some-back, mem-without, mem-without-back, mem-paired, mem-paired-back}
+use Rattle.semantics.proofs.Rows.{not-some, not-some-back, some-back, mem-without, mem-without-back, mem-paired, mem-paired-back}
 use Rattle.semantics.proofs.Truths.{true-may}
 
 module _ (tables : List (List (List Masked))) where
@@ -37,14 +37,14 @@ module _ (tables : List (List (List Masked))) where
       let h = mem-kept-back (λ x. not (some (compatible x) (high tables q))) (low tables p) m in
       mem-kept (λ x. not (some (sameRow x) (low tables q))) (low-high p (h .0))
       (not-some (sameRow r) (low tables q) (λ s k e. not-some-back (compatible r) (high tables q) (h .1) s (low-high q k)
-      (subst (λ x. compatible r x ≡ true) (same-row r s e) (compatible-self r))))
+      (subst (λ x. compatible r x ≡ true) (rows-same r s e) (compatible-self r))))
 
   -- a high row is certain or possible
   pub certain-or-possible : (q : Tree) (r : List Masked) → List·Memᴰ r (high tables q) → List·Memᴰ r (certain tables q) ⊎ List·Memᴰ r (possible tables q)
   certain-or-possible q r m = go (some (sameRow r) (low tables q)) refl
     where
       go : (b : Bool) → some (sameRow r) (low tables q) ≡ b → List·Memᴰ r (certain tables q) ⊎ List·Memᴰ r (possible tables q)
-      go true e = let h = some-back (sameRow r) (low tables q) e in inl (Memᴰ·cast (same-row r (h .0) (h .2)) (h .1))
+      go true e = let h = some-back (sameRow r) (low tables q) e in inl (Memᴰ·cast (rows-same r (h .0) (h .2)) (h .1))
       go false e = inr (mem-kept (λ x. not (some (sameRow x) (low tables q))) m (ap not e))
 
 -- a row of a table stands in it

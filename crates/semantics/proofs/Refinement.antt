@@ -1,7 +1,7 @@
 -- A faithful change of a view's cells keeps what is known of them; so it sharpens every answer.
-use mathlib.Core.Path.{_≡_, refl, sym, ap, ap₂, subst, subst₂, _∙_}
-use mathlib.Core.Bool.{Bool, true, false, cond, not, _&&_}
-use mathlib.Core.List.{List, [], _∷_, _++_, map, List·Memᴰ, List·Memᴰ·head, List·Memᴰ·tail, Memᴰ·append-left, Memᴰ·append-right, List·Memᴰ·append-cases, Memᴰ·cast}
+use mathlib.Core.Path.{_≡_, refl, sym, ap, ap₂, subst, _∙_}
+use mathlib.Core.Bool.{Bool, true, false, cond, not}
+use mathlib.Core.List.{List, [], _∷_, _++_, map, List·Memᴰ, Memᴰ·append-left, Memᴰ·append-right, List·Memᴰ·append-cases, Memᴰ·cast}
 use mathlib.Core.Logic.{_⊎_, inl, inr}
 use Prim.Native.Nat.{ℕ}
 use lib.Dec.{eqb}
@@ -9,28 +9,23 @@ use lib.ListN.{getD, List·getD-map}
 use Rattle.std.proofs.shelf.Lists.{map-append}
 use Rattle.std.proofs.shelf.Tests.{and-parts, and-from, eqb-true, eqb-false, eq-eqb, ne-eqb, not-true, both-ways, false≢true}
 use Rattle.semantics.specs.declared.operator.Operator.{Operator}
-use Rattle.semantics.specs.Answers.{sameRow, withoutRepeats, picked, paired, low, high}
+use Rattle.semantics.specs.Answers.{sameRow, picked, low, high}
 use Rattle.semantics.specs.Compatible.{differ, groupOf, compatible}
 use Rattle.semantics.specs.Conditions.{Comparison, byColumn, byNumber, byPrefix, Condition, compared, conjunction, disjunction, negation}
 use Rattle.semantics.specs.Faithful.{Faithful, changed}
 use Rattle.semantics.specs.Lists.{some}
 use Rattle.semantics.specs.Queries.{Tree, table, select, project, product, union, difference}
 use Rattle.semantics.specs.Standing.{StandsIn}
-use Rattle.semantics.specs.Truths.{Truth, unknown, itself, apart, compare, cellAt, comparisonTruth, truth, isTrue, mayBeTrue}
+use Rattle.semantics.specs.Truths.{unknown, itself, apart, compare, cellAt, comparisonTruth, truth, isTrue, mayBeTrue}
 use Rattle.semantics.specs.Values.{Value, number, prefix, sameValue}
 use Rattle.semantics.specs.Views.{Masked, value, variable, pseudonym}
 use Rattle.semantics.specs.Wider.{sameMasked}
-use Rattle.semantics.proofs.Compatible.{Consistent, compatible-consistent, compatible-by, group-joins}
+use Rattle.semantics.proofs.Compatible.{is-false, rows-same, same-rows, Consistent, compatible-consistent, compatible-by, group-joins}
 use Rattle.semantics.proofs.LowHigh.{cell-has, high-has, low-has}
 use Rattle.semantics.proofs.Masked.{same-masked}
 use Rattle.semantics.proofs.Member.{mem-map, mem-map-back, mem-kept, mem-kept-back, map-map}
-use Rattle.semantics.proofs.Rows.{same-row, row-same, not-some, not-some-back, mem-without, mem-without-back, mem-paired, mem-paired-back}
+use Rattle.semantics.proofs.Rows.{not-some, not-some-back, mem-without, mem-without-back, mem-paired, mem-paired-back}
 use Rattle.semantics.proofs.Truths.{Sharper, sharper-both, sharper-either, sharper-opposite, sharper-true, sharper-may, sharper-self, sharper-cond, itself-sharper, apart-values, apart-pseudonyms}
-use Rattle.semantics.proofs.Values.{value-same}
-
-is-false : (b : Bool) → (b ≡ true → ⊥) → b ≡ false
-is-false true h = absurd (h refl)
-is-false false h = refl
 
 module _ (tables : List (List (List Masked))) (change : Masked → Masked) (faithful : Faithful tables change) where
   -- a cell that may be in an answer: of the pseudonyms only those of the tables
@@ -239,6 +234,6 @@ module _ (tables : List (List (List Masked))) (change : Masked → Masked) (fait
           mem-kept (λ x. not (some (sameRow x) (low tables q))) (j .1)
               (not-some (sameRow (j .0)) (low tables q) (λ t k e.
               not-some-back (sameRow s) (low wide q) (h .1) (map change t) (low-changed q k)
-              (row-same s (map change t) (j .2 ∙ ap (map change) (same-row (j .0) t e))))),
+              (same-rows s (map change t) (j .2 ∙ ap (map change) (rows-same (j .0) t e))))),
           j .2,
         )

@@ -1,6 +1,6 @@
 -- Answers of well-formed queries have no repeats, and low answers are no longer than high ones.
 use mathlib.Core.Path.{_≡_, refl, sym, ap, ap₂, _∙_}
-use mathlib.Core.Bool.{Bool, true, false, cond, not, _&&_}
+use mathlib.Core.Bool.{Bool, true, false, cond, not}
 use mathlib.Core.List.{List, [], _∷_, _++_, map, List·Memᴰ, List·Memᴰ·head, List·Memᴰ·tail, List·Memᴰ·append-cases, Memᴰ·cast, head-eq-of-cons-eq, tail-eq-of-cons-eq}
 use mathlib.Core.Logic.{_⊎_, inl, inr}
 use Prim.Native.Nat.{ℕ, _+_, _≤_, _<_}
@@ -18,10 +18,11 @@ use Rattle.semantics.specs.Lists.{every, some, pairwise}
 use Rattle.semantics.specs.Queries.{Tree, table, select, project, product, union, difference, nodes, kindsOf, proper, wellFormed}
 use Rattle.semantics.specs.Truths.{cellAt, truth, isTrue, mayBeTrue}
 use Rattle.semantics.specs.Views.{Masked}
+use Rattle.semantics.proofs.Compatible.{rows-same, same-rows}
 use Rattle.semantics.proofs.Held.{pairwise-length}
 use Rattle.semantics.proofs.LowHigh.{low-high}
 use Rattle.semantics.proofs.Member.{mem-map-back, mem-kept, mem-kept-back}
-use Rattle.semantics.proofs.Rows.{same-row, row-self, mem-without-back, mem-paired-back}
+use Rattle.semantics.proofs.Rows.{mem-without-back, mem-paired-back}
 
 -- no element stands in the list again
 abbrev pub Distinct : {X : Type 0} → List X → Type 0
@@ -54,7 +55,7 @@ distinct-map f inj (x ∷ xs) d = (
 distinct-without : (rs : List (List Masked)) → Distinct (withoutRepeats rs)
 distinct-without [] = tt
 distinct-without (r ∷ rs) = (
-  λ m. both-ways (not (sameRow r r)) (ap not (row-self r)) (mem-kept-back (λ s. not (sameRow r s)) (withoutRepeats rs) m .1),
+  λ m. both-ways (not (sameRow r r)) (ap not (same-rows r r refl)) (mem-kept-back (λ s. not (sameRow r s)) (withoutRepeats rs) m .1),
   distinct-kept (λ s. not (sameRow r s)) (withoutRepeats rs) (distinct-without rs),
 )
 
@@ -67,7 +68,7 @@ differs : (r : List Masked) (rs : List (List Masked)) → (List·Memᴰ r rs →
 differs r rs h s m = go (sameRow r s) refl
   where
     go : (b : Bool) → sameRow r s ≡ b → not b ≡ true
-    go true e = absurd (h (Memᴰ·cast (same-row r s e) m))
+    go true e = absurd (h (Memᴰ·cast (rows-same r s e) m))
     go false e = refl
 
 pub distinct-same : (rs : List (List Masked)) → Distinct rs → withoutRepeats rs ≡ rs
@@ -116,7 +117,7 @@ pub no-longer : (rs ss : List (List Masked)) → Distinct rs → ((r : List Mask
 no-longer [] ss d h = omega arith
 no-longer (r ∷ rs) ss d h =
     let a = no-longer rs (kept-by (λ s. not (sameRow r s)) ss) (d .1) (λ s m. mem-kept (λ s. not (sameRow r s)) (h s (List·Memᴰ·tail m)) (differs r rs (d .0) s m)) in
-    let b = kept-fewer (λ s. not (sameRow r s)) (h r (List·Memᴰ·head refl)) (ap not (row-self r)) in
+    let b = kept-fewer (λ s. not (sameRow r s)) (h r (List·Memᴰ·head refl)) (ap not (same-rows r r refl)) in
     omega arith
 
 -- the parts of a well-formed query are well formed

@@ -1,31 +1,14 @@
--- Identical rows, and membership in rows without repeats and in paired rows.
-use mathlib.Core.Path.{_≡_, refl, sym, ap, ap₂, subst, _∙_}
+-- Tests that no row passes, and membership in rows without repeats and in paired rows.
+use mathlib.Core.Path.{_≡_, refl, sym, ap, ap₂, _∙_}
 use mathlib.Core.Bool.{Bool, true, false, not, _||_}
 use mathlib.Core.List.{List, [], _∷_, _++_, map, List·Memᴰ, List·Memᴰ·head, List·Memᴰ·tail}
-use Rattle.std.specs.shelf.Lists.{joined, kept-by}
-use Rattle.std.proofs.shelf.Tests.{and-parts, and-from, or-parts, not-true, both-ways, false≢true}
+use Rattle.std.specs.shelf.Lists.{kept-by}
+use Rattle.std.proofs.shelf.Tests.{or-parts, not-true, both-ways, false≢true}
 use Rattle.semantics.specs.Answers.{sameRow, withoutRepeats, paired}
-use Rattle.semantics.specs.Lists.{some, pairwise}
+use Rattle.semantics.specs.Lists.{some}
 use Rattle.semantics.specs.Views.{Masked}
-use Rattle.semantics.specs.Wider.{sameMasked}
-use Rattle.semantics.proofs.Masked.{same-masked, masked-self}
+use Rattle.semantics.proofs.Compatible.{rows-same}
 use Rattle.semantics.proofs.Member.{mem-map, mem-map-back, mem-kept, mem-kept-back, mem-joined, mem-joined-back}
-
--- the test says just that the rows are equal
-pub same-row : (r s : List Masked) → sameRow r s ≡ true → r ≡ s
-same-row [] [] e = refl
-same-row [] (b ∷ s) e = absurd (false≢true e)
-same-row (a ∷ r) [] e = absurd (false≢true e)
-same-row (a ∷ r) (b ∷ s) e =
-    let h = and-parts (sameMasked a b) (sameRow r s) e in
-    ap₂ _∷_ (same-masked a b (h .0)) (same-row r s (h .1))
-
-pub row-self : (r : List Masked) → sameRow r r ≡ true
-row-self [] = refl
-row-self (a ∷ r) = and-from (sameMasked a a) (sameRow r r) (masked-self a) (row-self r)
-
-pub row-same : (r s : List Masked) → r ≡ s → sameRow r s ≡ true
-row-same r s e = subst (λ x. sameRow r x ≡ true) e (row-self r)
 
 -- a test that no element passes
 module _ {A : Type 0} (p : A → Bool) where
@@ -63,7 +46,7 @@ mem-without (List·Memᴰ·head e) = List·Memᴰ·head e
 mem-without {r} (List·Memᴰ·tail {x = x} {xs = xs} m) = go (mem-without m) (sameRow x r) refl
   where
     go : List·Memᴰ r (withoutRepeats xs) → (b : Bool) → sameRow x r ≡ b → List·Memᴰ r (x ∷ kept-by (λ s. not (sameRow x s)) (withoutRepeats xs))
-    go ih true e = List·Memᴰ·head (sym (same-row x r e))
+    go ih true e = List·Memᴰ·head (sym (rows-same x r e))
     go ih false e = List·Memᴰ·tail (mem-kept (λ s. not (sameRow x s)) ih (ap not e))
 
 pub mem-without-back : (rs : List (List Masked)) {r : List Masked} → List·Memᴰ r (withoutRepeats rs) → List·Memᴰ r rs

@@ -1,6 +1,6 @@
 -- Which truth says at least what another says, and what a comparison with itself says.
-use mathlib.Core.Path.{_≡_, refl, sym, ap, ap₂, subst, _∙_}
-use mathlib.Core.Bool.{Bool, true, false, cond, _&&_}
+use mathlib.Core.Path.{_≡_, refl, sym, ap, subst, _∙_}
+use mathlib.Core.Bool.{Bool, true, false, cond}
 use mathlib.Core.List.{List, [], _∷_}
 use Prim.Native.Nat.{ℕ}
 use native.Mathlib.Omega.{arith}
@@ -13,6 +13,7 @@ use Rattle.semantics.specs.declared.operator.Operator.the-variants.{Equal, Une
 use Rattle.semantics.specs.Truths.{Truth, holds, fails, unknown, both, either, opposite, known, begins, below, covers, shorter, plainly, itself, apart, compare, isTrue, mayBeTrue}
 use Rattle.semantics.specs.Values.{Value, number, prefix, sameValue}
 use Rattle.semantics.specs.Views.{Masked, value, variable, pseudonym}
+use Rattle.semantics.proofs.Compatible.{is-false}
 use Rattle.semantics.proofs.Values.{same-value, value-self}
 
 -- the second truth is the first, unless that is unknown
@@ -109,10 +110,6 @@ itself-sharper op a b e =
     subst (λ x. Sharper (itself op) (compare op a x)) e (subst (Sharper (itself op)) (sym (compare-self op a)) (sharper-self (itself op)))
 
 -- different values, and different pseudonyms of a domain
-is-false : (b : Bool) → (b ≡ true → ⊥) → b ≡ false
-is-false true h = absurd (h refl)
-is-false false h = refl
-
 pub apart-values : (op : Operator) (v w : Value) → (v ≡ w → ⊥) → Sharper (apart op) (compare op (value v) (value w))
 apart-values Equal v w h = rw (is-false (sameValue v w) (λ t. h (same-value v w t)))
 apart-values Unequal v w h = rw (is-false (sameValue v w) (λ t. h (same-value v w t)))

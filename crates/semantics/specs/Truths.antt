@@ -107,7 +107,7 @@ compare op (pseudonym d n) (value w) = unknown
 compare op (pseudonym d n) (variable t r c) = unknown
 compare op (pseudonym d n) (pseudonym e k) = cond (eqb d e) (cond (eqb n k) (itself op) (apart op)) unknown
 
--- The cell of a row in a column.
+-- The cell of a row in a column. Past the end of the row it is the number 0; no well-formed query asks for that.
 abbrev pub cellAt : List Masked → ℕ → Masked
 cellAt row c = getD row c (value (number 0))
 
