@@ -32,9 +32,10 @@ use Rattle.semantics.proofs.Seen.{Sight, as-value, as-variable, as-pseudonym, s
 use Rattle.laws.specs.Compatible.{CompatibleMeansJoinable, CompatibleInEveryBook, CompatibleExamples}
 
 pub compatible-joinable : CompatibleMeansJoinable
-compatible-joinable columns tables few proper r s over =
-    (compatible-joined columns tables few proper r s over,
-    λ h. joined-compatible columns tables (h .0) (h .1) r s (over .leftStands) (over .rightStands) (h .2))
+compatible-joinable columns tables few proper r s over = (
+  compatible-joined columns tables few proper r s over,
+  λ h. joined-compatible columns tables (h .0) (h .1) r s (over .leftStands) (over .rightStands) (h .2),
+)
 
 pub examples : CompatibleExamples
 examples = record {

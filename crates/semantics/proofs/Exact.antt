@@ -67,13 +67,13 @@ module _ (tables : List (List (List Masked))) (all : (a : Masked) → StandsIn t
   exact (select c q) =
       ap (kept-by (λ r. isTrue (truth c r))) (exact q)
       ∙ kept-agree (λ r. isTrue (truth c r)) (λ r. mayBeTrue (truth c r)) (high tables q)
-          (λ r m. let k = known-truth c r (row-values q r m) in rw (k .1) (true-is-may (k .0)))
+      (λ r m. let k = known-truth c r (row-values q r m) in rw (k .1) (true-is-may (k .0)))
   exact (project cs q) = ap (λ x. withoutRepeats (map (picked cs) x)) (exact q)
   exact (product p q) = ap₂ paired (exact p) (exact q)
   exact (union p q) = ap₂ (λ x y. withoutRepeats (x ++ y)) (exact p) (exact q)
   exact (difference p q) =
       ap (kept-by (λ r. not (some (compatible r) (high tables q)))) (exact p)
       ∙ kept-agree (λ r. not (some (compatible r) (high tables q))) (λ r. not (some (sameRow r) (low tables q))) (high tables p)
-          (λ r m. ap not
-          (some-agree (compatible r) (sameRow r) (high tables q) (λ s k. compatible-values r s (row-values p r m) (row-values q s k))
-          ∙ ap (some (sameRow r)) (sym (exact q))))
+      (λ r m. ap not
+      (some-agree (compatible r) (sameRow r) (high tables q) (λ s k. compatible-values r s (row-values p r m) (row-values q s k))
+      ∙ ap (some (sameRow r)) (sym (exact q))))
