@@ -35,12 +35,12 @@ module _ (S : List (List Column)) (ns : List ℕ) (cells : List Cell) (clean : C
   held : cellValue (cellAt cells t r c) ≡ getD (getD (rowsOf (modelIn S ns cells) t) r []) c (number 0)
   held =
       ⊎-elim
-      (λ (l : r < getD ns t 0). ⊎-elim
-      (λ (b : c < widthOf S t). sym (in-row l _ (getD-tabled (λ c. cellValue (cellAt cells t r c)) (widthOf S t) c (number 0) b)))
-      (λ (b : widthOf S t ≤ c). free (grind (arith, tells)) ∙ sym (in-row l _ (getD-past (rowIn cells t (widthOf S t) r) c (number 0) (rw (length-tabled (λ c. cellValue (cellAt cells t r c)) (widthOf S t)) b))))
-      (cases-lt c (widthOf S t)))
-      (λ (l : getD ns t 0 ≤ r). free (grind (arith, tells)) ∙ sym (ap (λ row. getD row c (number 0)) (getD-past (rowsOf (modelIn S ns cells) t) r [] (rw (count-at S ns cells t table) l))))
-      (cases-lt r (getD ns t 0))
+        (λ (l : r < getD ns t 0). ⊎-elim
+          (λ (b : c < widthOf S t). sym (in-row l _ (getD-tabled (λ c. cellValue (cellAt cells t r c)) (widthOf S t) c (number 0) b)))
+          (λ (b : widthOf S t ≤ c). free (grind (arith, tells)) ∙ sym (in-row l _ (getD-past (rowIn cells t (widthOf S t) r) c (number 0) (rw (length-tabled (λ c. cellValue (cellAt cells t r c)) (widthOf S t)) b))))
+          (cases-lt c (widthOf S t)))
+        (λ (l : getD ns t 0 ≤ r). free (grind (arith, tells)) ∙ sym (ap (λ row. getD row c (number 0)) (getD-past (rowsOf (modelIn S ns cells) t) r [] (rw (count-at S ns cells t table) l))))
+        (cases-lt r (getD ns t 0))
 
 pub laid : (S : List (List Column)) (ns : List ℕ) (cells : List Cell) → Clean S ns cells → Laid (modelIn S ns cells) cells
 unfolding Laid

@@ -41,11 +41,10 @@ abbrev pub tableIn : List Cell → ℕ → ℕ → ℕ → List (List Value)
 tableIn cells t width count = tabled (rowIn cells t width) count
 
 abbrev pub modelIn : List (List Column) → List ℕ → List Cell → Model
-modelIn columns counts cells = record {
-  columns = columns;
-  tables = tabled (λ t. tableIn cells t (widthOf columns t) (getD counts t 0)) 4;
-  limit = limitOf (length cells);
-}
+modelIn columns counts cells = record
+  { columns = columns
+  ; tables = tabled (λ t. tableIn cells t (widthOf columns t) (getD counts t 0)) 4
+  ; limit = limitOf (length cells) }
 
 -- Does a row use the cell `k` of the memory?
 abbrev pub used : List (List Column) → List ℕ → ℕ → Bool

@@ -6,6 +6,7 @@ ghost use Rattle.semantics.specs.Outcomes.{Answers, Steps, Kept};
 ghost use Rattle.cells.specs.Cells.{cellValue};
 ghost use Rattle.book.specs.Books.{bookModel, memory};
 ghost use Rattle.book.specs.Layout.{place, Laid};
+
 use crate::book::Book;
 use crate::book::Rows;
 use cells::Cell;
@@ -47,13 +48,7 @@ impl Book<'_> {
     }
 
     /// Replaces one cell of a row.
-    pub fn amend(
-        &mut self,
-        table: usize,
-        row: usize,
-        column: usize,
-        cell: Cell,
-    ) -> Result<(), Refusal>
+    pub fn amend(&mut self, table: usize, row: usize, column: usize, cell: Cell) -> Result<(), Refusal>
         ensures step { λ r. ⌜ Steps r (amended (bookModel (now (self .entry))) table row column (cellValue cell)) (bookModel (now (self .entry))) (bookModel (now (self .exit))) ⌝ }
         ensures kept { λ r. ⌜ Kept r (memory (now (self .entry))) (memory (now (self .exit))) ⌝ }
         ensures laid { λ _. ⌜ Laid (bookModel (now (self .exit))) (memory (now (self .exit))) ⌝ }

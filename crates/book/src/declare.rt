@@ -6,6 +6,7 @@ ghost use Rattle.semantics.specs.Drafts.{blank, suits, agree, admits, mayDeclar
 ghost use Rattle.semantics.specs.Lists.{every};
 ghost use Rattle.semantics.specs.Outcomes.{Answers, Steps, Kept};
 ghost use Rattle.book.specs.Columns.{listed, columnsIn};
+
 use crate::columns::Columns;
 use crate::draft::Draft;
 use semantics::Column;
@@ -25,14 +26,8 @@ impl Columns {
     fn none() -> Columns
         ensures { λ r. ⌜ listed r ≡ [] ⌝ }
     {
-        let column = Column {
-            kind: Kind::Number,
-            domain: 0,
-        };
-        Columns {
-            list: [column; 8],
-            width: 0,
-        }
+        let column = Column { kind: Kind::Number, domain: 0 };
+        Columns { list: [column; 8], width: 0 }
     }
 
     /// Adds a column at the end.
@@ -70,9 +65,7 @@ impl Draft {
     pub fn new() -> Draft
         ensures { λ r. ⌜ columnsIn (r .tables) ≡ blank ⌝ }
     {
-        Draft {
-            tables: [Columns::none(); 4],
-        }
+        Draft { tables: [Columns::none(); 4] }
     }
 
     /// Whether every column of this domain, in any table, has this kind.

@@ -4,6 +4,7 @@ ghost use Rattle.cells.specs.declared.cell.Cell.the-variants.{Number};
 ghost use Rattle.semantics.specs.Books.{opened};
 ghost use Rattle.book.specs.Books.{bookModel, memory};
 ghost use Rattle.book.specs.Columns.{columnsIn};
+
 use crate::book::Book;
 use crate::book::Rows;
 use crate::draft::Draft;
@@ -17,10 +18,7 @@ impl Draft {
     {
         cells.fill(Cell::Number(0));
         let Draft { tables } = self;
-        let rows = Rows {
-            counts: [0; 4],
-            cells,
-        };
+        let rows = Rows { counts: [0; 4], cells };
         Book { tables, rows }
     }
 }

@@ -4,6 +4,7 @@ ghost use lib.ListN.{length, take, drop};
 ghost use Rattle.semantics.specs.Books.{columnsOf, rowsOf, limitOf};
 ghost use Rattle.book.specs.Books.{bookModel, RowAt};
 ghost use Rattle.book.specs.Layout.{rowStart};
+
 use crate::book::Book;
 use crate::book::Rows;
 use cells::Cell;
@@ -33,11 +34,7 @@ impl Book<'_> {
     pub fn columns(&self, table: usize) -> &[Column]
         ensures { λ r. ⌜ now r ≡ columnsOf (bookModel (now (self .entry))) table ⌝ }
     {
-        if table < 4 {
-            self.tables[table].listed()
-        } else {
-            &[]
-        }
+        if table < 4 { self.tables[table].listed() } else { &[] }
     }
 
     /// How many columns a table has, none where there is no such table.
@@ -45,22 +42,17 @@ impl Book<'_> {
         ensures value { λ r. ⌜ r ≡ length (columnsOf (bookModel (now (self .entry))) table) ⌝ }
         ensures few { λ r. ⌜ r ≤ 8 ⌝ }
     {
-        if table < 4 {
-            self.tables[table].width
-        } else {
-            0
+        if table >= 4 {
+            return 0;
         }
+        self.tables[table].width
     }
 
     /// How many rows a table has, none where there is no such table.
     pub fn row_count(&self, table: usize) -> usize
         ensures { λ r. ⌜ r ≡ length (rowsOf (bookModel (now (self .entry))) table) ⌝ }
     {
-        if table < 4 {
-            self.rows.counts[table]
-        } else {
-            0
-        }
+        if table < 4 { self.rows.counts[table] } else { 0 }
     }
 
     /// The cells of a row, where there is one of this number.

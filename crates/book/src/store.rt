@@ -9,6 +9,7 @@ ghost use Rattle.cells.specs.Cells.{cellValue};
 ghost use Rattle.book.specs.Books.{bookModel, memory};
 ghost use Rattle.book.specs.Columns.{listed};
 ghost use Rattle.book.specs.Layout.{rowStart, Laid};
+
 use crate::book::Book;
 use crate::book::Rows;
 use crate::columns::Columns;

@@ -5,6 +5,7 @@ ghost use Rattle.semantics.specs.Books.{limitOf, mayStrike, struck};
 ghost use Rattle.semantics.specs.Outcomes.{Answers, Steps, Kept};
 ghost use Rattle.book.specs.Books.{bookModel, memory};
 ghost use Rattle.book.specs.Layout.{Laid, Removed};
+
 use crate::book::Book;
 use crate::book::Rows;
 use cells::Cell;

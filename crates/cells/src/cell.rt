@@ -1,6 +1,7 @@
 ghost use mathlib.Core.Path.{_≡_};
 ghost use Rattle.semantics.specs.Values.{kindOf};
 ghost use Rattle.cells.specs.Cells.{cellValue};
+
 use crate::prefix::Prefix;
 use crate::prefix::PrefixDebug;
 use semantics::Kind;

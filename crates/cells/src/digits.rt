@@ -3,6 +3,7 @@ ghost use Rattle.semantics.specs.Lists.{every};
 ghost use Rattle.semantics.specs.Outcomes.{AnswersAs};
 ghost use Rattle.semantics.specs.Values.{isDigit, prefixFrom};
 ghost use Rattle.cells.specs.Prefixes.{digitsOf, SameStructure};
+
 use crate::prefix::Prefix;
 use semantics::Refusal;
 
@@ -29,10 +30,7 @@ impl Prefix {
         }
         let mut places = [0; 8];
         places[0..count].copy_from_slice(bytes);
-        Ok(Prefix {
-            places,
-            count: count as u8,
-        })
+        Ok(Prefix { places, count: count as u8 })
     }
 
     /// The digits of the prefix. No other structure has the same digits.

@@ -12,11 +12,10 @@ pub returns-in-Break-may-amend : need.returns-in-Break-may-amend
 returns-in-Break-may-amend c =
     let s = c .args .self .now in
     let p = err-from-errBy (c .from-residual .result) (c .from-residual .ensures .1) in
-    rw (p .1, p .2) (record {
-      step = (rw (c .in-Break-may-amend .ensures tt), refl);
-      kept = refl;
-      laid = laid (columnsIn (s .tables)) (s .rows .counts) (memory s) (s .clean);
-    })
+    rw (p .1, p .2) (record
+      { step = (rw (c .in-Break-may-amend .ensures tt), refl)
+      ; kept = refl
+      ; laid = laid (columnsIn (s .tables)) (s .rows .counts) (memory s) (s .clean) })
 
 pub put-requires : need.put-requires
 put-requires c κs =
@@ -33,8 +32,7 @@ pub returns : need.returns
 returns c =
     let s = c .args .self .now in
     let n = amend-next s (c .args .table) (c .args .row) (c .args .column) (c .args .cell) (c .in-Continue-may-amend .ensures tt) (c .put .last .self .counts) (now (c .put .last .self .cells)) (c .put .ensures .counts) (c .put .ensures .cells) in
-    record {
-      step = rw (c .in-Continue-may-amend .ensures tt) (ap done (sym (n .model)));
-      kept = tt;
-      laid = laid (columnsIn (s .tables)) (c .put .last .self .counts) (now (c .put .last .self .cells)) (n .clean);
-    }
+    record
+      { step = rw (c .in-Continue-may-amend .ensures tt) (ap done (sym (n .model)))
+      ; kept = tt
+      ; laid = laid (columnsIn (s .tables)) (c .put .last .self .counts) (now (c .put .last .self .cells)) (n .clean) }

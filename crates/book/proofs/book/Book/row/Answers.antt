@@ -28,8 +28,7 @@ returns c =
     let h : c .args .row < length (rowsOf (bookModel s) t) = omega arith in
     let k = row-known S (s .rows .counts) (memory s) t (c .args .row) (s .fitting) h in
     let w = width-at (s .tables) t (c .index-self-table .result) (omega (arith, s .four)) in
-    let n = width-le (s .tables) t in (
-      h,
-      ap (map cellValue) (c .part .ensures ∙ ap (λ m. take m (drop (rowStart t (c .args .row)) (memory s))) (sym w))
-          ∙ row-read S (s .rows .counts) (memory s) t (c .args .row) (k .0) (k .1) (omega arith),
-    )
+    let n = width-le (s .tables) t in
+    ( h
+    , ap (map cellValue) (c .part .ensures ∙ ap (λ m. take m (drop (rowStart t (c .args .row)) (memory s))) (sym w))
+      ∙ row-read S (s .rows .counts) (memory s) t (c .args .row) (k .0) (k .1) (omega arith) )

@@ -12,11 +12,10 @@ pub returns-in-Break-may-store : need.returns-in-Break-may-store
 returns-in-Break-may-store c =
     let s = c .args .self .now in
     let p = err-from-errBy (c .from-residual .result) (c .from-residual .ensures .1) in
-    rw (p .1, p .2) (record {
-      step = (rw (c .in-Break-may-store .ensures tt), refl);
-      kept = refl;
-      laid = laid (columnsIn (s .tables)) (s .rows .counts) (memory s) (s .clean);
-    })
+    rw (p .1, p .2) (record
+      { step = (rw (c .in-Break-may-store .ensures tt), refl)
+      ; kept = refl
+      ; laid = laid (columnsIn (s .tables)) (s .rows .counts) (memory s) (s .clean) })
 
 pub push-requires : need.push-requires
 push-requires c κs =
@@ -33,8 +32,7 @@ pub returns : need.returns
 returns c =
     let s = c .args .self .now in
     let n = store-next s (c .args .table) (c .args .row .now) (c .in-Continue-may-store .ensures tt) (c .push .last .self .counts) (now (c .push .last .self .cells)) (c .push .ensures .counts) (c .push .ensures .cells) in
-    record {
-      step = rw (c .in-Continue-may-store .ensures tt) (ap done (sym (n .model)));
-      kept = tt;
-      laid = laid (columnsIn (s .tables)) (c .push .last .self .counts) (now (c .push .last .self .cells)) (n .clean);
-    }
+    record
+      { step = rw (c .in-Continue-may-store .ensures tt) (ap done (sym (n .model)))
+      ; kept = tt
+      ; laid = laid (columnsIn (s .tables)) (c .push .last .self .counts) (now (c .push .last .self .cells)) (n .clean) }

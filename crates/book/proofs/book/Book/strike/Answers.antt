@@ -12,11 +12,10 @@ pub returns-in-Break-may-strike : need.returns-in-Break-may-strike
 returns-in-Break-may-strike c =
     let s = c .args .self .now in
     let p = err-from-errBy (c .from-residual .result) (c .from-residual .ensures .1) in
-    rw (p .1, p .2) (record {
-      step = (rw (c .in-Break-may-strike .ensures tt), refl);
-      kept = refl;
-      laid = laid (columnsIn (s .tables)) (s .rows .counts) (memory s) (s .clean);
-    })
+    rw (p .1, p .2) (record
+      { step = (rw (c .in-Break-may-strike .ensures tt), refl)
+      ; kept = refl
+      ; laid = laid (columnsIn (s .tables)) (s .rows .counts) (memory s) (s .clean) })
 
 pub remove-requires : need.remove-requires
 remove-requires c κs =
@@ -33,8 +32,7 @@ pub returns : need.returns
 returns c =
     let s = c .args .self .now in
     let n = strike-next s (c .args .table) (c .args .row) (c .in-Continue-may-strike .ensures tt) (c .remove .last .self .counts) (now (c .remove .last .self .cells)) (c .remove .ensures .counts) (c .remove .ensures .cells) in
-    record {
-      step = rw (c .in-Continue-may-strike .ensures tt) (ap done (sym (n .model)));
-      kept = tt;
-      laid = laid (columnsIn (s .tables)) (c .remove .last .self .counts) (now (c .remove .last .self .cells)) (n .clean);
-    }
+    record
+      { step = rw (c .in-Continue-may-strike .ensures tt) (ap done (sym (n .model)))
+      ; kept = tt
+      ; laid = laid (columnsIn (s .tables)) (c .remove .last .self .counts) (now (c .remove .last .self .cells)) (n .clean) }

@@ -22,14 +22,11 @@ ghost-self c =
     let ts = c .args .self .now .tables in
     let t = c .args .table in
     let n = c .in-Continue-column .column in
-    let k = declare-known (columnsIn ts) t (c .args .kind) (c .args .domain) n (c .in-Continue-column .ensures tt) in (
-      length-set ts t (c .push .last .self) ∙ c .args .self .now .four,
-      (
-        ap agreed (declared-is ts t (c .index-self-table .result) (c .push .last .self) n (omega arith) (c .push .ensures))
-            ∙ declare-agreed (columnsIn ts) t n (k .2) (c .args .self .now .domains),
-        tt,
-      ),
-    )
+    let k = declare-known (columnsIn ts) t (c .args .kind) (c .args .domain) n (c .in-Continue-column .ensures tt) in
+    ( length-set ts t (c .push .last .self) ∙ c .args .self .now .four
+    , ( ap agreed (declared-is ts t (c .index-self-table .result) (c .push .last .self) n (omega arith) (c .push .ensures))
+        ∙ declare-agreed (columnsIn ts) t n (k .2) (c .args .self .now .domains)
+    , tt ) )
 
 pub returns : need.returns
 returns c =
@@ -37,7 +34,6 @@ returns c =
     let t = c .args .table in
     let n = c .in-Continue-column .column in
     let k = declare-known (columnsIn ts) t (c .args .kind) (c .args .domain) n (c .in-Continue-column .ensures tt) in
-    record {
-      step = rw (c .in-Continue-column .ensures tt) (ap done (sym (declared-is ts t (c .index-self-table .result) (c .push .last .self) n (omega arith) (c .push .ensures))));
-      kept = tt;
-    }
+    record
+      { step = rw (c .in-Continue-column .ensures tt) (ap done (sym (declared-is ts t (c .index-self-table .result) (c .push .last .self) n (omega arith) (c .push .ensures))))
+      ; kept = tt }

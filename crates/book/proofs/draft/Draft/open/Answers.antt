@@ -13,19 +13,10 @@ use Rattle.book.proofs.draft.Draft.open.Needs as need
 
 pub ghost-result : need.ghost-result
 ghost-result c =
-    let S = columnsIn (c .args .self .tables) in (
-      c .args .self .four,
-      (
-        refl,
-        (
-          c .args .self .domains,
-          (
-            open-lawful S (length (c .fill .last .self)) (length-map (c .args .self .tables) listed ∙ c .args .self .four),
-            (
-              subst (Clean S (0 ∷ 0 ∷ 0 ∷ 0 ∷ [])) (sym (c .fill .ensures .after (λ y e. e))) (clean-open S (0 ∷ 0 ∷ 0 ∷ 0 ∷ []) (length (c .args .cells .now))),
-              tt,
-            ),
-          ),
-        ),
-      ),
-    )
+    let S = columnsIn (c .args .self .tables) in
+    ( c .args .self .four
+    , ( refl
+    , ( c .args .self .domains
+    , ( open-lawful S (length (c .fill .last .self)) (length-map (c .args .self .tables) listed ∙ c .args .self .four)
+    , ( subst (Clean S (0 ∷ 0 ∷ 0 ∷ 0 ∷ [])) (sym (c .fill .ensures .after (λ y e. e))) (clean-open S (0 ∷ 0 ∷ 0 ∷ 0 ∷ []) (length (c .args .cells .now)))
+    , tt ) ) ) ) )

@@ -16,19 +16,12 @@ ghost-result c =
     let bytes = c .args .bytes .now in
     let front = c .copy-from-slice .last .self in
     let is = c .copy-from-slice .ensures .after in
-    let all : length bytes - 0 ≡ length bytes = omega arith in (
-      omega arith,
-      (
-        padded-length bytes front (length bytes - 0) (omega arith) is all,
-        (
-          ap (every isDigit) (padded-digits bytes front (length bytes - 0) (omega arith) is all) ∙ sym (c .if-not-all-digits .ensures tt),
-          (
-            padded-blank bytes front (length bytes - 0) (omega arith) is all,
-            tt,
-          ),
-        ),
-      ),
-    )
+    let all : length bytes - 0 ≡ length bytes = omega arith in
+    ( omega arith
+    , ( padded-length bytes front (length bytes - 0) (omega arith) is all
+    , ( ap (every isDigit) (padded-digits bytes front (length bytes - 0) (omega arith) is all) ∙ sym (c .if-not-all-digits .ensures tt)
+    , ( padded-blank bytes front (length bytes - 0) (omega arith) is all
+    , tt ) ) ) )
 
 accepted : (bytes : List ℕ) → length bytes ≤ 8 → true ≡ every isDigit bytes → prefixFrom bytes ≡ done bytes
 accepted bytes few all = grind (arith, tells)
