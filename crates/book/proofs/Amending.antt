@@ -43,32 +43,32 @@ module _ (S : List (List Column)) (ns : List ℕ) (cells : List Cell) (t r c : �
       let w = narrow t in
       getD-set-other cells (place t r c) (place u s d) x (Number 0)
       (⊎-elim
-        (λ (n : u ≢ t). let q : place u s d ≢ place t r c = omega arith in q)
-        (⊎-elim
-          (λ (n : s ≢ r). let q : place u s d ≢ place t r c = omega arith in q)
-          (λ (n : d ≢ c). λ p. ⊎-elim
-            (λ (g : s ≡ r). ⊎-elim (λ (h : u ≡ t). n (omega arith)) (λ (h : u ≢ t). absurd (omega arith)) (cases-eq u t))
-            (λ (g : s ≢ r). absurd (omega arith))
-            (cases-eq s r)))
-        e)
+      (λ (n : u ≢ t). let q : place u s d ≢ place t r c = omega arith in q)
+      (⊎-elim
+      (λ (n : s ≢ r). let q : place u s d ≢ place t r c = omega arith in q)
+      (λ (n : d ≢ c). λ p. ⊎-elim
+      (λ (g : s ≡ r). ⊎-elim (λ (h : u ≡ t). n (omega arith)) (λ (h : u ≢ t). absurd (omega arith)) (cases-eq u t))
+      (λ (g : s ≢ r). absurd (omega arith))
+      (cases-eq s r)))
+      e)
 
   new-row : rowIn after t (widthOf S t) r ≡ set (rowIn cells t (widthOf S t) r) c (cellValue x)
   new-row =
       let w = narrow t in
       tabled-set (λ d. cellValue (cellAt cells t r d)) (λ d. cellValue (cellAt after t r d)) (widthOf S t) (cellValue x) c (cellValue x) column
-        (ap cellValue (getD-set-same cells (place t r c) x (Number 0) (omega arith)))
-        (λ d l ne. ap cellValue (cell-other t r d in′ (omega arith) (inr (inr ne))))
+      (ap cellValue (getD-set-same cells (place t r c) x (Number 0) (omega arith)))
+      (λ d l ne. ap cellValue (cell-other t r d in′ (omega arith) (inr (inr ne))))
 
   new-table : tableIn after t (widthOf S t) (getD ns t 0) ≡ set (tableIn cells t (widthOf S t) (getD ns t 0)) r (set (rowIn cells t (widthOf S t) r) c (cellValue x))
   new-table =
       let w = narrow t in
       tabled-set (rowIn cells t (widthOf S t)) (rowIn after t (widthOf S t)) (getD ns t 0) [] r _ row new-row
-        (λ s l ne. row-same cells after t t (widthOf S t) s s (λ d h. cell-other t s d in′ (omega arith) (inr (inl ne))))
+      (λ s l ne. row-same cells after t t (widthOf S t) s s (λ d h. cell-other t s d in′ (omega arith) (inr (inl ne))))
 
   pub amend-model : modelIn S ns after ≡ withRows (modelIn S ns cells) t (set (rowsOf (modelIn S ns cells) t) r (set (getD (rowsOf (modelIn S ns cells) t) r []) c (cellValue x)))
   amend-model = rw (tables, length-set cells (place t r c) x, row-at S ns cells t r in′ row, rows-at S ns cells t in′)
     where
-    tables : modelIn S ns after .tables ≡ set (modelIn S ns cells .tables) t (set (tableIn cells t (widthOf S t) (getD ns t 0)) r (set (rowIn cells t (widthOf S t) r) c (cellValue x)))
-    tables =
-        tabled-set (λ t. tableIn cells t (widthOf S t) (getD ns t 0)) (λ k. tableIn after k (widthOf S k) (getD ns k 0)) 4 [] t _ in′ new-table
-        (λ k l ne. table-same cells after k (widthOf S k) (getD ns k 0) (λ s d a b. let w = narrow k in cell-other k s d l (omega arith) (inl ne)))
+      tables : modelIn S ns after .tables ≡ set (modelIn S ns cells .tables) t (set (tableIn cells t (widthOf S t) (getD ns t 0)) r (set (rowIn cells t (widthOf S t) r) c (cellValue x)))
+      tables =
+          tabled-set (λ t. tableIn cells t (widthOf S t) (getD ns t 0)) (λ k. tableIn after k (widthOf S k) (getD ns k 0)) 4 [] t _ in′ new-table
+          (λ k l ne. table-same cells after k (widthOf S k) (getD ns k 0) (λ s d a b. let w = narrow k in cell-other k s d l (omega arith) (inl ne)))

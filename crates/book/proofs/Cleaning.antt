@@ -50,26 +50,26 @@ module _ (S : List (List Column)) (ns : List ℕ) (cells row : List Cell) (t n w
   unused-before : (u r c : ℕ) → usedAt S (set ns t (n + 1)) u r c ≡ false → usedAt S ns u r c ≡ false
   unused-before u r c free =
       ⊎-elim
-        (λ (e : u ≡ t). let g : getD (set ns t (n + 1)) u 0 ≡ n + 1 = rw (e, getD-set-same ns t (n + 1) 0 (omega arith)) in let h : getD ns u 0 ≡ n = rw e is in grind (arith, tells))
-        (λ (ne : u ≢ t). rw (getD-set-other ns t u (n + 1) 0 ne) at free)
-        (cases-eq u t)
+      (λ (e : u ≡ t). let g : getD (set ns t (n + 1)) u 0 ≡ n + 1 = rw (e, getD-set-same ns t (n + 1) 0 (omega arith)) in let h : getD ns u 0 ≡ n = rw e is in grind (arith, tells))
+      (λ (ne : u ≢ t). rw (getD-set-other ns t u (n + 1) 0 ne) at free)
+      (cases-eq u t)
 
   pub clean-store : Clean S ns cells → Clean S (set ns t (n + 1)) (paste cells (rowStart t n) row w)
   clean-store clean =
       from-at S (set ns t (n + 1)) (paste cells (rowStart t n) row w)
       (λ u r c a b free. subst (λ x. isZero x ≡ true) (sym (same u r c a b free)) (to-at S ns cells clean u r c a b (unused-before u r c free)))
     where
-    same : (u r c : ℕ) → u < 4 → c < 8 → usedAt S (set ns t (n + 1)) u r c ≡ false → cellAt (paste cells (rowStart t n) row w) u r c ≡ cellAt cells u r c
-    same u r c a b free =
-        ⊎-elim
+      same : (u r c : ℕ) → u < 4 → c < 8 → usedAt S (set ns t (n + 1)) u r c ≡ false → cellAt (paste cells (rowStart t n) row w) u r c ≡ cellAt cells u r c
+      same u r c a b free =
+          ⊎-elim
           (λ (e : u ≡ t). ⊎-elim
-            (λ (f : r ≡ n).
-              let g : getD (set ns t (n + 1)) u 0 ≡ n + 1 = rw (e, getD-set-same ns t (n + 1) 0 (omega arith)) in
-              let v : widthOf S u ≡ w = rw e (sym wide) in
-              let past : w ≤ c = grind (arith, tells) in
-              rw (e, f) (put-past cells row t n w in′ narrow room enough c past))
-            (λ (ne : r ≢ n). put-out cells row t n w in′ narrow room enough u r c a b (inr ne))
-            (cases-eq r n))
+          (λ (f : r ≡ n).
+          let g : getD (set ns t (n + 1)) u 0 ≡ n + 1 = rw (e, getD-set-same ns t (n + 1) 0 (omega arith)) in
+          let v : widthOf S u ≡ w = rw e (sym wide) in
+          let past : w ≤ c = grind (arith, tells) in
+          rw (e, f) (put-past cells row t n w in′ narrow room enough c past))
+          (λ (ne : r ≢ n). put-out cells row t n w in′ narrow room enough u r c a b (inr ne))
+          (cases-eq r n))
           (λ (ne : u ≢ t). put-out cells row t n w in′ narrow room enough u r c a b (inl ne))
           (cases-eq u t)
 
@@ -78,29 +78,29 @@ module _ (S : List (List Column)) (ns : List ℕ) (old new : List Cell) (t row n
   pub clean-strike : Clean S ns old → Clean S (set ns t n) new
   clean-strike clean = from-at S (set ns t n) new each
     where
-    was : CleanAt S ns old
-    was = to-at S ns old clean
+      was : CleanAt S ns old
+      was = to-at S ns old clean
 
-    -- the cell is one of the old ones
-    from : (u r s c : ℕ) → u < 4 → c < 8 → cellAt new u r c ≡ cellAt old u s c → usedAt S ns u s c ≡ false → isZero (cellAt new u r c) ≡ true
-    from u r s c a b e free = subst (λ x. isZero x ≡ true) (sym e) (was u s c a b free)
+      -- the cell is one of the old ones
+      from : (u r s c : ℕ) → u < 4 → c < 8 → cellAt new u r c ≡ cellAt old u s c → usedAt S ns u s c ≡ false → isZero (cellAt new u r c) ≡ true
+      from u r s c a b e free = subst (λ x. isZero x ≡ true) (sym e) (was u s c a b free)
 
-    here : (r c : ℕ) → c < 8 → usedAt S (set ns t n) t r c ≡ false → isZero (cellAt new t r c) ≡ true
-    here r c b free =
-        let g = getD-set-same ns t n 0 (omega arith) in
-        ⊎-elim
+      here : (r c : ℕ) → c < 8 → usedAt S (set ns t n) t r c ≡ false → isZero (cellAt new t r c) ≡ true
+      here r c b free =
+          let g = getD-set-same ns t n 0 (omega arith) in
+          ⊎-elim
           (λ (l : r < row). from t r r c in′ b (m .stay t r c in′ b (inr (inl l))) (grind (arith, tells)))
           (λ (l : row ≤ r). ⊎-elim
-            (λ (f : r ≡ n). subst (λ x. isZero x ≡ true) (sym (ap (λ j. cellAt new t j c) f ∙ m .clear c b)) refl)
-            (⊎-elim
-              (λ (f : r < n). from t r (r + 1) c in′ b (m .move r c b l f) (grind (arith, tells)))
-              (λ (f : n < r). from t r r c in′ b (m .stay t r c in′ b (inr (inr f))) (grind (arith, tells))))
-            (cases-order r n))
+          (λ (f : r ≡ n). subst (λ x. isZero x ≡ true) (sym (ap (λ j. cellAt new t j c) f ∙ m .clear c b)) refl)
+          (⊎-elim
+          (λ (f : r < n). from t r (r + 1) c in′ b (m .move r c b l f) (grind (arith, tells)))
+          (λ (f : n < r). from t r r c in′ b (m .stay t r c in′ b (inr (inr f))) (grind (arith, tells))))
+          (cases-order r n))
           (cases-lt r row)
 
-    each : CleanAt S (set ns t n) new
-    each u r c a b free =
-        ⊎-elim
+      each : CleanAt S (set ns t n) new
+      each u r c a b free =
+          ⊎-elim
           (λ (e : u ≡ t). subst (λ j. isZero (cellAt new j r c) ≡ true) (sym e) (here r c b (subst (λ j. usedAt S (set ns t n) j r c ≡ false) e free)))
           (λ (ne : u ≢ t). from u r r c a b (m .stay u r c a b (inl ne)) (rw (getD-set-other ns t u n 0 ne) at free))
           (cases-eq u t)

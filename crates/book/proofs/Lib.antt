@@ -2,7 +2,6 @@ pub mod Listing
 pub mod Tabled
 pub mod Memory
 pub mod Cleaning
-pub mod Layouts
 pub mod Storing
 pub mod Striking
 pub mod Amending

@@ -13,7 +13,7 @@ use Rattle.semantics.specs.declared.kind.Kind.{Kind}
 use Rattle.semantics.specs.declared.kind.Column.{Column}
 use Rattle.semantics.specs.declared.refusal.Refusal.the-variants.{TooManyColumns, UnknownKind, WrongDomain}
 use Rattle.semantics.specs.Books.{columnAt}
-use Rattle.semantics.specs.Drafts.{admits, mayDeclare, declared}
+use Rattle.semantics.specs.Drafts.{admits, added, mayDeclare}
 use Rattle.semantics.specs.Kinds.{kindFrom}
 use Rattle.semantics.specs.Outcomes.{done, refuse, question, found, andThen}
 use Rattle.book.specs.declared.columns.Columns.{Columns}
@@ -52,5 +52,5 @@ module _ (S : List (List Column)) (t k d : ℕ) (in′ : t < 4) where
     declare-known-kind kind b e f = rw (lt-ltb t 4 in′, lt-ltb (length (getD S t [])) 8 room, ← e, ← f)
 
 -- the columns after a declaration
-pub declared-is : (ts : List Columns) (t : ℕ) (z new : Columns) (n : Column) → t < length ts → listed new ≡ listed (getD ts t z) ++ n ∷ [] → columnsIn (set ts t new) ≡ set (columnsIn ts) t (getD (columnsIn ts) t [] ++ n ∷ [])
+pub declared-is : (ts : List Columns) (t : ℕ) (z new : Columns) (n : Column) → t < length ts → listed new ≡ listed (getD ts t z) ++ n ∷ [] → columnsIn (set ts t new) ≡ added (columnsIn ts) t n
 declared-is ts t z new n in′ is = map-set listed ts t new ∙ ap (set (columnsIn ts) t) (is ∙ ap (λ cs. cs ++ n ∷ []) (sym (columns-at ts t z in′)))

@@ -16,7 +16,8 @@ use Rattle.semantics.proofs.Lawful.{rows-within}
 use Rattle.cells.specs.declared.cell.Cell.{Cell}
 use Rattle.cells.specs.declared.cell.Cell.the-variants.{Number}
 use Rattle.cells.specs.Cells.{cellValue}
-use Rattle.book.specs.Layout.{rowStart, place, cellAt, widthOf, tabled, rowIn, tableIn, modelIn}
+use Rattle.semantics.specs.Lists.{tabled}
+use Rattle.book.specs.Layout.{rowStart, place, cellAt, widthOf, rowIn, tableIn, modelIn}
 use Rattle.book.proofs.Tabled.{length-tabled, getD-tabled, tabled-is, tabled-same}
 
 -- a list of one value has it everywhere
@@ -46,9 +47,9 @@ module _ (S : List (List Column)) (ns : List ℕ) (cells : List Cell) (t : ℕ) 
   pub row-known : (r : ℕ) → lawful (modelIn S ns cells) ≡ true → r < length (rowsOf (modelIn S ns cells) t) → (t < 4) × (r < getD ns t 0) × (getD ns t 0 ≤ limitOf (length cells))
   row-known r law h =
       ⊎-elim
-        (λ (a : t < 4). (a, rw (count-at a) at h, within a law))
-        (λ (a : 4 ≤ t). let e = ap length (no-rows a) in absurd (omega arith))
-        (cases-lt t 4)
+      (λ (a : t < 4). (a, rw (count-at a) at h, within a law))
+      (λ (a : 4 ≤ t). let e = ap length (no-rows a) in absurd (omega arith))
+      (cases-lt t 4)
 
   -- a row as it is read from a part of the memory
   pub row-read : (r : ℕ) → t < 4 → r < getD ns t 0 → rowStart t r + widthOf S t ≤ length cells → map cellValue (take (widthOf S t) (drop (rowStart t r) cells)) ≡ getD (rowsOf (modelIn S ns cells) t) r []
@@ -57,7 +58,7 @@ module _ (S : List (List Column)) (ns : List ℕ) (cells : List Cell) (t : ℕ) 
       let len : length (take (widthOf S t) (drop (rowStart t r) cells)) ≡ widthOf S t = simp (length-take, length-drop) (omega arith) in
       tabled-is (λ c. cellValue (cellAt cells t r c)) (widthOf S t) (map cellValue part) (cellValue (Number 0)) (simp length-map len)
       (λ c b. getD-map cellValue part c (Number 0) (cellValue (Number 0)) (omega arith)
-        ∙ ap cellValue (getD-take (widthOf S t) (drop (rowStart t r) cells) c (Number 0) b ∙ getD-drop (rowStart t r) cells c (Number 0)))
+      ∙ ap cellValue (getD-take (widthOf S t) (drop (rowStart t r) cells) c (Number 0) b ∙ getD-drop (rowStart t r) cells c (Number 0)))
       ∙ sym (row-at r h l)
 
 -- two memories that agree on the cells of a row, of a table
@@ -72,9 +73,9 @@ table-same old new t w n h = tabled-same (rowIn new t w) (rowIn old t w) n [] (�
 pub apart : (t r u s c : ℕ) → t < 4 → u < 4 → c < 8 → (u ≢ t) ⊎ (s ≢ r) → (place u s c < rowStart t r) ⊎ (rowStart t r + 8 ≤ place u s c)
 apart t r u s c a b d e =
     ⊎-elim
-      (λ (l : place u s c < rowStart t r). inl l)
-      (λ (g : rowStart t r ≤ place u s c). inr (⊎-elim (λ (ne : u ≢ t). omega arith) (λ (ne : s ≢ r). omega arith) e))
-      (cases-lt (place u s c) (rowStart t r))
+    (λ (l : place u s c < rowStart t r). inl l)
+    (λ (g : rowStart t r ≤ place u s c). inr (⊎-elim (λ (ne : u ≢ t). omega arith) (λ (ne : s ≢ r). omega arith) e))
+    (cases-lt (place u s c) (rowStart t r))
 
 -- the memory after the first w of some cells are written to a row
 module _ (cells src : List Cell) (t r w : ℕ) (in′ : t < 4) (narrow : w ≤ 8) (room : r < limitOf (length cells)) (enough : w ≤ length src) where

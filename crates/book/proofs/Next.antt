@@ -52,11 +52,12 @@ module _ (b : Book) (t : ℕ) where
         let n = getD ns t 0 in
         let k = store-fits in
         let model = store-model S ns (memory b) row t n (width-le (b .tables)) (b .counted) (k .0) refl (k .1) (k .3) in
-        at-parts (Next S (withRows (bookModel b) t (rowsOf (bookModel b) t ++ map cellValue row ∷ []))) (set ns t (n + 1)) ms (paste (memory b) (rowStart t n) row (length row)) cells e f (record
-          { model = model
-          ; counted = length-set ns t (n + 1) ∙ b .counted
-          ; law = ap lawful model ∙ store-lawful (bookModel b) t (b .fitting) (map cellValue row) may
-          ; clean = clean-store S ns (memory b) row t n (length row) (k .0) (b .counted) refl (k .1) (k .2) (k .3) (omega arith) (b .clean) })
+        at-parts (Next S (withRows (bookModel b) t (rowsOf (bookModel b) t ++ map cellValue row ∷ []))) (set ns t (n + 1)) ms (paste (memory b) (rowStart t n) row (length row)) cells e f (record {
+          model = model;
+          counted = length-set ns t (n + 1) ∙ b .counted;
+          law = ap lawful model ∙ store-lawful (bookModel b) t (b .fitting) (map cellValue row) may;
+          clean = clean-store S ns (memory b) row t n (length row) (k .0) (b .counted) refl (k .1) (k .2) (k .3) (omega arith) (b .clean);
+        })
 
   module _ (r : ℕ) (may : mayStrike (bookModel b) t r ≡ done tt) where
     pub strike-fits : (t < 4) × (r < getD ns t 0) × (getD ns t 0 ≤ limitOf (length (memory b)))
@@ -70,11 +71,12 @@ module _ (b : Book) (t : ℕ) where
         let n = getD ns t 0 - 1 in
         let k = strike-fits in
         let model = strike-model S ns (memory b) cells t r n (width-le (b .tables)) (b .counted) (k .0) (omega arith) (omega arith) m in
-        at-parts (Next S (withRows (bookModel b) t (removed (rowsOf (bookModel b) t) r))) (set ns t n) ms cells cells e refl (record
-          { model = model
-          ; counted = length-set ns t n ∙ b .counted
-          ; law = ap lawful model ∙ strike-lawful (bookModel b) t (b .fitting) r may
-          ; clean = clean-strike S ns (memory b) cells t r n (k .0) (b .counted) (omega arith) (omega arith) m (b .clean) })
+        at-parts (Next S (withRows (bookModel b) t (removed (rowsOf (bookModel b) t) r))) (set ns t n) ms cells cells e refl (record {
+          model = model;
+          counted = length-set ns t n ∙ b .counted;
+          law = ap lawful model ∙ strike-lawful (bookModel b) t (b .fitting) r may;
+          clean = clean-strike S ns (memory b) cells t r n (k .0) (b .counted) (omega arith) (omega arith) m (b .clean);
+        })
 
   module _ (r c : ℕ) (x : Cell) (may : mayAmend (bookModel b) t r c (cellValue x) ≡ done tt) where
     pub amend-fits : (t < 4) × (r < getD ns t 0) × (c < widthOf S t) × (r < limitOf (length (memory b))) × (c < 8)
@@ -89,8 +91,9 @@ module _ (b : Book) (t : ℕ) where
     amend-next ms cells e f =
         let k = amend-fits in
         let model = amend-model S ns (memory b) t r c x (width-le (b .tables)) (k .0) (k .1) (k .2) (k .3) in
-        at-parts (Next S (withRows (bookModel b) t (set (rowsOf (bookModel b) t) r (set (getD (rowsOf (bookModel b) t) r []) c (cellValue x))))) ns ms (set (memory b) (place t r c) x) cells e f (record
-          { model = model
-          ; counted = b .counted
-          ; law = ap lawful model ∙ amend-lawful (bookModel b) t (b .fitting) r c (cellValue x) may
-          ; clean = clean-amend S ns (memory b) t r c x (k .0) (k .4) (k .1) (k .2) (b .clean) })
+        at-parts (Next S (withRows (bookModel b) t (set (rowsOf (bookModel b) t) r (set (getD (rowsOf (bookModel b) t) r []) c (cellValue x))))) ns ms (set (memory b) (place t r c) x) cells e f (record {
+          model = model;
+          counted = b .counted;
+          law = ap lawful model ∙ amend-lawful (bookModel b) t (b .fitting) r c (cellValue x) may;
+          clean = clean-amend S ns (memory b) t r c x (k .0) (k .4) (k .1) (k .2) (b .clean);
+        })

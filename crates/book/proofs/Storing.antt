@@ -22,7 +22,8 @@ use Rattle.cells.specs.declared.cell.Cell.the-variants.{Number}
 use Rattle.cells.specs.Cells.{cellValue}
 use Rattle.book.specs.declared.columns.Columns.{Columns}
 use Rattle.book.specs.Columns.{listed, columnsIn}
-use Rattle.book.specs.Layout.{rowStart, cellAt, widthOf, tabled, rowIn, tableIn, modelIn}
+use Rattle.semantics.specs.Lists.{tabled}
+use Rattle.book.specs.Layout.{rowStart, cellAt, widthOf, rowIn, tableIn, modelIn}
 use Rattle.book.proofs.Listing.{columns-at, width-at}
 use Rattle.book.proofs.Memory.{rows-at, count-at, table-same, put-in, put-out, put-length}
 use Rattle.book.proofs.Tabled.{tabled-is, tabled-more, tabled-set}
@@ -81,13 +82,13 @@ module _ (S : List (List Column)) (ns : List ℕ) (cells row : List Cell) (t n :
   store-model =
       rw (tables, put-length cells row t n (length row) in′ few room (omega arith))
     where
-    tables : modelIn S (set ns t (n + 1)) after .tables ≡ set (modelIn S ns cells .tables) t (rowsOf (modelIn S ns cells) t ++ map cellValue row ∷ [])
-    tables =
-        tabled-set
+      tables : modelIn S (set ns t (n + 1)) after .tables ≡ set (modelIn S ns cells .tables) t (rowsOf (modelIn S ns cells) t ++ map cellValue row ∷ [])
+      tables =
+          tabled-set
           (λ t. tableIn cells t (widthOf S t) (getD ns t 0))
           (λ k. tableIn after k (widthOf S k) (getD (set ns t (n + 1)) k 0))
           4 [] t _ in′
           (ap (tableIn after t (widthOf S t)) (getD-set-same ns t (n + 1) 0 (omega arith)) ∙ new-table)
           (λ k l ne.
-            ap (tableIn after k (widthOf S k)) (getD-set-other ns t k (n + 1) 0 ne)
-            ∙ table-same cells after k (widthOf S k) (getD ns k 0) (λ r c a b. let w = narrow k in put-out cells row t n (length row) in′ few room (omega arith) k r c l (omega arith) (inl ne)))
+          ap (tableIn after k (widthOf S k)) (getD-set-other ns t k (n + 1) 0 ne)
+          ∙ table-same cells after k (widthOf S k) (getD ns k 0) (λ r c a b. let w = narrow k in put-out cells row t n (length row) in′ few room (omega arith) k r c l (omega arith) (inl ne)))

@@ -46,26 +46,28 @@ module _ (t row i : ℕ) (old new after : List Cell) (in′ : t < 4) (from : row
   next c b = here (place t i c) (Number 0) (omega arith) (omega arith) ∙ ap (λ p. getD new p (Number 0)) (omega arith)
 
   pub moved-more : Moved t row (i + 1) old after
-  moved-more = record
-    { size = size′ ∙ m .size
-    ; stay = λ u r c a b d.
+  moved-more = record {
+    size = size′ ∙ m .size;
+    stay = λ u r c a b d.
         same u r c a b (⊎-elim inl (λ o. inr (⊎-elim (λ (x : r < row). omega arith) (λ (x : i + 1 ≤ r). omega arith) o)) d)
-        ∙ m .stay u r c a b (⊎-elim inl (λ o. inr (⊎-elim inl (λ (x : i + 1 ≤ r). inr (omega arith)) o)) d)
-    ; move = λ r c b low high.
+        ∙ m .stay u r c a b (⊎-elim inl (λ o. inr (⊎-elim inl (λ (x : i + 1 ≤ r). inr (omega arith)) o)) d);
+    move = λ r c b low high.
         ⊎-elim
-          (λ (e : r ≡ i). subst (λ j. cellAt after t j c ≡ cellAt old t (j + 1) c) (sym e) (next c b ∙ m .stay t (i + 1) c in′ b (inr (inr (omega arith)))))
-          (λ (ne : r ≢ i). same t r c in′ b (inr ne) ∙ m .move r c b low (omega arith))
-          (cases-eq r i) }
+        (λ (e : r ≡ i). subst (λ j. cellAt after t j c ≡ cellAt old t (j + 1) c) (sym e) (next c b ∙ m .stay t (i + 1) c in′ b (inr (inr (omega arith)))))
+        (λ (ne : r ≢ i). same t r c in′ b (inr ne) ∙ m .move r c b low (omega arith))
+        (cases-eq r i);
+  }
 
 -- the last row is cleared
 pub removed-is : (t row n : ℕ) (old new : List Cell) → t < 4 → row ≤ n → n < limitOf (length new) → Moved t row n old new → Removed t row n old (paste new (rowStart t n) (replicate 8 (Number 0)) 8)
-removed-is t row n old new in′ low room m = record
-  { size = put-length new (replicate 8 (Number 0)) t n 8 in′ (omega arith) room (omega arith) ∙ m .size
-  ; stay = λ u r c a b d.
+removed-is t row n old new in′ low room m = record {
+  size = put-length new (replicate 8 (Number 0)) t n 8 in′ (omega arith) room (omega arith) ∙ m .size;
+  stay = λ u r c a b d.
       put-out new (replicate 8 (Number 0)) t n 8 in′ (omega arith) room (omega arith) u r c a b (⊎-elim inl (λ o. inr (⊎-elim (λ (x : r < row). omega arith) (λ (x : n < r). omega arith) o)) d)
-      ∙ m .stay u r c a b (⊎-elim inl (λ o. inr (⊎-elim inl (λ (x : n < r). inr (omega arith)) o)) d)
-  ; move = λ r c b low high. put-out new (replicate 8 (Number 0)) t n 8 in′ (omega arith) room (omega arith) t r c in′ b (inr (omega arith)) ∙ m .move r c b low high
-  ; clear = λ c b. put-in new (replicate 8 (Number 0)) t n 8 in′ (omega arith) room (omega arith) c b ∙ getD-same 8 (Number 0) c }
+      ∙ m .stay u r c a b (⊎-elim inl (λ o. inr (⊎-elim inl (λ (x : n < r). inr (omega arith)) o)) d);
+  move = λ r c b low high. put-out new (replicate 8 (Number 0)) t n 8 in′ (omega arith) room (omega arith) t r c in′ b (inr (omega arith)) ∙ m .move r c b low high;
+  clear = λ c b. put-in new (replicate 8 (Number 0)) t n 8 in′ (omega arith) room (omega arith) c b ∙ getD-same 8 (Number 0) c;
+}
 
 -- the book after a strike
 module _ (S : List (List Column)) (ns : List ℕ) (old new : List Cell) (t row n : ℕ) (narrow : (t : ℕ) → widthOf S t ≤ 8) (four : length ns ≡ 4) (in′ : t < 4) (is : getD ns t 0 ≡ n + 1) (low : row ≤ n) (m : Removed t row n old new) where
@@ -73,16 +75,16 @@ module _ (S : List (List Column)) (ns : List ℕ) (old new : List Cell) (t row n
   new-table =
       let w = narrow t in
       tabled-removed (rowIn old t (widthOf S t)) (rowIn new t (widthOf S t)) n [] row (omega arith)
-        (λ r h. row-same old new t t (widthOf S t) r r (λ c b. m .stay t r c in′ (omega arith) (inr (inl h))))
-        (λ r a h. row-same old new t t (widthOf S t) r (r + 1) (λ c b. m .move r c (omega arith) a h))
+      (λ r h. row-same old new t t (widthOf S t) r r (λ c b. m .stay t r c in′ (omega arith) (inr (inl h))))
+      (λ r a h. row-same old new t t (widthOf S t) r (r + 1) (λ c b. m .move r c (omega arith) a h))
       ∙ ap (λ rows. removed rows row) (sym (rows-at S ns old t in′ ∙ ap (tableIn old t (widthOf S t)) is))
 
   pub strike-model : modelIn S (set ns t n) new ≡ withRows (modelIn S ns old) t (removed (rowsOf (modelIn S ns old) t) row)
   strike-model = rw (tables, m .size)
     where
-    tables : modelIn S (set ns t n) new .tables ≡ set (modelIn S ns old .tables) t (removed (rowsOf (modelIn S ns old) t) row)
-    tables =
-        tabled-set (λ t. tableIn old t (widthOf S t) (getD ns t 0)) (λ k. tableIn new k (widthOf S k) (getD (set ns t n) k 0)) 4 [] t _ in′
-        (ap (tableIn new t (widthOf S t)) (getD-set-same ns t n 0 (omega arith)) ∙ new-table)
-        (λ k l ne. ap (tableIn new k (widthOf S k)) (getD-set-other ns t k n 0 ne)
+      tables : modelIn S (set ns t n) new .tables ≡ set (modelIn S ns old .tables) t (removed (rowsOf (modelIn S ns old) t) row)
+      tables =
+          tabled-set (λ t. tableIn old t (widthOf S t) (getD ns t 0)) (λ k. tableIn new k (widthOf S k) (getD (set ns t n) k 0)) 4 [] t _ in′
+          (ap (tableIn new t (widthOf S t)) (getD-set-same ns t n 0 (omega arith)) ∙ new-table)
+          (λ k l ne. ap (tableIn new k (widthOf S k)) (getD-set-other ns t k n 0 ne)
           ∙ table-same old new k (widthOf S k) (getD ns k 0) (λ r c a b. let w = narrow k in m .stay k r c l (omega arith) (inl ne)))

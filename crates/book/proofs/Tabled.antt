@@ -10,7 +10,7 @@ use Rattle.std.proofs.shelf.Counted.{length-map-counting, getD-map-counting, ma
 use Rattle.std.proofs.shelf.Edits.{length-removed, getD-removed-below, getD-removed-above}
 use Rattle.std.proofs.shelf.Lists.{getD-set-same, getD-set-other, length-set}
 use Rattle.std.proofs.shelf.Tests.{cases-eq, cases-lt}
-use Rattle.book.specs.Layout.{tabled}
+use Rattle.semantics.specs.Lists.{tabled}
 
 module _ {X : Type 0} (f : ℕ → X) (n : ℕ) where
   pub length-tabled : length (tabled f n) ≡ n
@@ -35,9 +35,9 @@ module _ {X : Type 0} (f g : ℕ → X) (n : ℕ) (d : X) where
   tabled-set i v l here others =
       sym (tabled-is g n (set (tabled f n) i v) d (simp (length-set, length-tabled) refl)
       (λ k h. ⊎-elim
-        (λ (e : k ≡ i). subst (λ j. getD (set (tabled f n) i v) j d ≡ g j) (sym e) (getD-set-same (tabled f n) i v d (rw (length-tabled f n) l) ∙ sym here))
-        (λ (ne : k ≢ i). getD-set-other (tabled f n) i k v d ne ∙ (getD-tabled f n k d h ∙ sym (others k h ne)))
-        (cases-eq k i)))
+      (λ (e : k ≡ i). subst (λ j. getD (set (tabled f n) i v) j d ≡ g j) (sym e) (getD-set-same (tabled f n) i v d (rw (length-tabled f n) l) ∙ sym here))
+      (λ (ne : k ≢ i). getD-set-other (tabled f n) i k v d ne ∙ (getD-tabled f n k d h ∙ sym (others k h ne)))
+      (cases-eq k i)))
 
   -- one element is gone
   pub tabled-removed : (i : ℕ) → i < n + 1 → ((k : ℕ) → k < i → g k ≡ f k) → ((k : ℕ) → i ≤ k → k < n → g k ≡ f (k + 1)) → tabled g n ≡ removed (tabled f (n + 1)) i
@@ -46,6 +46,6 @@ module _ {X : Type 0} (f g : ℕ → X) (n : ℕ) (d : X) where
       let in′ : i < length (tabled f (n + 1)) = omega arith in
       sym (tabled-is g n (removed (tabled f (n + 1)) i) d (omega (arith, length-removed (tabled f (n + 1)) i in′))
       (λ k h. ⊎-elim
-        (λ (a : k < i). getD-removed-below (tabled f (n + 1)) i d k a in′ ∙ (getD-tabled f (n + 1) k d (omega arith) ∙ sym (low k a)))
-        (λ (b : i ≤ k). getD-removed-above (tabled f (n + 1)) i d k b in′ ∙ (getD-tabled f (n + 1) (k + 1) d (omega arith) ∙ sym (high k b h)))
-        (cases-lt k i)))
+      (λ (a : k < i). getD-removed-below (tabled f (n + 1)) i d k a in′ ∙ (getD-tabled f (n + 1) k d (omega arith) ∙ sym (low k a)))
+      (λ (b : i ≤ k). getD-removed-above (tabled f (n + 1)) i d k b in′ ∙ (getD-tabled f (n + 1) (k + 1) d (omega arith) ∙ sym (high k b h)))
+      (cases-lt k i)))

@@ -11,7 +11,7 @@ use Rattle.cells.specs.declared.cell.Cell.{Cell}
 use Rattle.cells.specs.Cells.{cellValue}
 use Rattle.book.specs.declared.book.Book.{Book}
 use Rattle.book.specs.Columns.{columnsIn}
-use Rattle.book.specs.Layout.{modelIn}
+use Rattle.book.specs.Layout.{modelIn, Clean}
 
 -- The cells of the memory that was lent.
 abbrev pub memory : Book → List Cell
@@ -20,6 +20,10 @@ memory b = now (b .rows .cells)
 -- The columns and rows of the book.
 abbrev pub bookModel : Book → Model
 bookModel b = modelIn (columnsIn (b .tables)) (b .rows .counts) (memory b)
+
+-- Every cell of the memory that no row uses is the number 0.
+abbrev pub UnusedAreZero : Book → Type 0
+UnusedAreZero b = Clean (columnsIn (b .tables)) (b .rows .counts) (memory b)
 
 -- The cells of a row, or none where the table has no such row.
 abbrev pub RowAt : Model → ℕ → ℕ → Option (RefT (List Cell)) → Type 0

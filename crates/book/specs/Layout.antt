@@ -1,15 +1,15 @@
 -- Where the rows of a book lie in its memory.
 use mathlib.Core.Path.{_≡_}
 use mathlib.Core.Bool.{Bool, true, false, _&&_}
-use mathlib.Core.List.{List, [], map}
+use mathlib.Core.List.{List, []}
 use mathlib.Core.Logic.{_⊎_, _≢_}
 use Prim.Native.Nat.{ℕ, _+_, _*_, _/_, _%_, _≤_, _<_}
 use lib.Dec.{ltb, eqb}
 use lib.ListN.{length, getD}
-use Rattle.std.specs.Iters.{counting}
 use Rattle.semantics.specs.declared.kind.Column.{Column}
 use Rattle.semantics.specs.Books.{Model, limitOf}
-use Rattle.semantics.specs.Values.{Value, number}
+use Rattle.semantics.specs.Lists.{tabled}
+use Rattle.semantics.specs.Values.{Value}
 use Rattle.cells.specs.declared.cell.Cell.{Cell}
 use Rattle.cells.specs.declared.cell.Cell.the-variants.{Number, Prefix}
 use Rattle.cells.specs.Cells.{cellValue}
@@ -29,10 +29,6 @@ cellAt cells t r c = getD cells (place t r c) (Number 0)
 abbrev pub widthOf : List (List Column) → ℕ → ℕ
 widthOf columns t = length (getD columns t [])
 
--- The list of `f 0`, `f 1`, .. up to below `n`.
-abbrev pub tabled : {X : Type 0} → (ℕ → X) → ℕ → List X
-tabled f n = map f (counting 0 n)
-
 -- The row, the table and the book that stand in memory; `counts` has the number of rows of each table.
 abbrev pub rowIn : List Cell → ℕ → ℕ → ℕ → List Value
 rowIn cells t width r = tabled (λ c. cellValue (cellAt cells t r c)) width
@@ -41,10 +37,11 @@ abbrev pub tableIn : List Cell → ℕ → ℕ → ℕ → List (List Value)
 tableIn cells t width count = tabled (rowIn cells t width) count
 
 abbrev pub modelIn : List (List Column) → List ℕ → List Cell → Model
-modelIn columns counts cells = record
-  { columns = columns
-  ; tables = tabled (λ t. tableIn cells t (widthOf columns t) (getD counts t 0)) 4
-  ; limit = limitOf (length cells) }
+modelIn columns counts cells = record {
+  columns = columns;
+  tables = tabled (λ t. tableIn cells t (widthOf columns t) (getD counts t 0)) 4;
+  limit = limitOf (length cells);
+}
 
 -- Does a row use the cell `k` of the memory?
 abbrev pub used : List (List Column) → List ℕ → ℕ → Bool
@@ -58,11 +55,6 @@ isZero (Prefix p) = false
 -- A cell that no row uses is the number 0.
 abbrev pub Clean : List (List Column) → List ℕ → List Cell → Type 0
 Clean columns counts cells = (k : ℕ) → used columns counts k ≡ false → isZero (getD cells k (Number 0)) ≡ true
-
--- The layout: cell `k` holds what the book has in table (k / 8) % 4, row k / 32 and column k % 8,
--- and the number 0 where the book has nothing there.
-unfoldable pub Laid : Model → List Cell → Type 0
-Laid m cells = (k : ℕ) → cellValue (getD cells k (Number 0)) ≡ getD (getD (getD (m .tables) (k / 8 % 4) []) (k / 32) []) (k % 8) (number 0)
 
 -- What taking a row away does to the memory; `last` is the number of the table's last row before.
 pub record Removed (t row last : ℕ) (old new : List Cell) : Type 0 where

@@ -2,11 +2,10 @@ ghost use mathlib.Core.Path.{_≡_};
 ghost use Prim.Native.Nat.{ℕ, _<_};
 ghost use lib.ListN.{length, set};
 ghost use Rattle.semantics.specs.Books.{limitOf, mayAmend, amended};
-ghost use Rattle.semantics.specs.Outcomes.{Answers, Steps, Kept};
+ghost use Rattle.semantics.specs.Outcomes.{Answers, Steps, Kept, done};
 ghost use Rattle.cells.specs.Cells.{cellValue};
-ghost use Rattle.book.specs.Books.{bookModel, memory};
-ghost use Rattle.book.specs.Layout.{place, Laid};
-
+ghost use Rattle.book.specs.Books.{bookModel, memory, UnusedAreZero};
+ghost use Rattle.book.specs.Layout.{place};
 use crate::book::Book;
 use crate::book::Rows;
 use cells::Cell;
@@ -47,14 +46,28 @@ impl Book<'_> {
         Ok(())
     }
 
+    /// Replaces a cell that there is by one of its kind.
+    fn replace(&mut self, table: usize, row: usize, column: usize, cell: Cell)
+        requires { ⌜ mayAmend (bookModel (now self)) table row column (cellValue cell) ≡ done tt ⌝ }
+        ensures { λ _. ⌜ amended (bookModel (now (self .entry))) table row column (cellValue cell) ≡ done (bookModel (now (self .exit))) ⌝ }
+    {
+        self.rows.put(table, row, column, cell);
+    }
+
     /// Replaces one cell of a row.
-    pub fn amend(&mut self, table: usize, row: usize, column: usize, cell: Cell) -> Result<(), Refusal>
+    pub fn amend(
+        &mut self,
+        table: usize,
+        row: usize,
+        column: usize,
+        cell: Cell,
+    ) -> Result<(), Refusal>
         ensures step { λ r. ⌜ Steps r (amended (bookModel (now (self .entry))) table row column (cellValue cell)) (bookModel (now (self .entry))) (bookModel (now (self .exit))) ⌝ }
         ensures kept { λ r. ⌜ Kept r (memory (now (self .entry))) (memory (now (self .exit))) ⌝ }
-        ensures laid { λ _. ⌜ Laid (bookModel (now (self .exit))) (memory (now (self .exit))) ⌝ }
+        ensures clean { λ _. ⌜ UnusedAreZero (now (self .exit)) ⌝ }
     {
         self.may_amend(table, row, column, cell)?;
-        self.rows.put(table, row, column, cell);
+        self.replace(table, row, column, cell);
         Ok(())
     }
 }

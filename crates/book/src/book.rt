@@ -6,7 +6,6 @@ ghost use Rattle.semantics.specs.Books.{lawful};
 ghost use Rattle.semantics.specs.Drafts.{agreed};
 ghost use Rattle.book.specs.Columns.{columnsIn};
 ghost use Rattle.book.specs.Layout.{Clean, modelIn};
-
 use crate::columns::Columns;
 use cells::Cell;
 

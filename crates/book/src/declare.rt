@@ -1,18 +1,29 @@
 ghost use mathlib.Core.Path.{_≡_};
 ghost use mathlib.Core.List.{List, [], _∷_, _++_};
 ghost use Prim.Native.Nat.{ℕ, _<_};
-ghost use lib.ListN.{length};
-ghost use Rattle.semantics.specs.Drafts.{blank, suits, agree, admits, mayDeclare, declared};
+ghost use lib.ListN.{length, getD};
+ghost use Rattle.semantics.specs.Drafts.{blank, suits, agree, admits, added, mayDeclare, declared};
 ghost use Rattle.semantics.specs.Lists.{every};
 ghost use Rattle.semantics.specs.Outcomes.{Answers, Steps, Kept};
-ghost use Rattle.book.specs.Columns.{listed, columnsIn};
-
+ghost use Rattle.std.specs.Vec.{made};
+ghost use Rattle.book.specs.Columns.{listed, columnsIn, Takes};
 use crate::columns::Columns;
 use crate::draft::Draft;
 use semantics::Column;
 use semantics::Kind;
 use semantics::KindPartialEq;
 use semantics::Refusal;
+
+/// The columns of a table, none where there is no such table.
+pub(crate) fn columns_of(tables: &[Columns], table: usize) -> &[Column]
+    ensures { λ r. ⌜ now r ≡ getD (columnsIn (now (tables .entry))) table [] ⌝ }
+{
+    if table < tables.len() {
+        tables[table].listed()
+    } else {
+        &[]
+    }
+}
 
 /// Whether the column is of another domain, or of this kind.
 fn suits(column: Column, kind: Kind, domain: u8) -> bool
@@ -22,14 +33,6 @@ fn suits(column: Column, kind: Kind, domain: u8) -> bool
 }
 
 impl Columns {
-    /// No columns yet.
-    fn none() -> Columns
-        ensures { λ r. ⌜ listed r ≡ [] ⌝ }
-    {
-        let column = Column { kind: Kind::Number, domain: 0 };
-        Columns { list: [column; 8], width: 0 }
-    }
-
     /// Adds a column at the end.
     fn push(&mut self, column: Column)
         requires { ⌜ now self .width < 8 ⌝ }
@@ -65,7 +68,15 @@ impl Draft {
     pub fn new() -> Draft
         ensures { λ r. ⌜ columnsIn (r .tables) ≡ blank ⌝ }
     {
-        Draft { tables: [Columns::none(); 4] }
+        let column = Column {
+            kind: Kind::Number,
+            domain: 0,
+        };
+        let none = Columns {
+            list: [column; 8],
+            width: 0,
+        };
+        Draft { tables: [none; 4] }
     }
 
     /// Whether every column of this domain, in any table, has this kind.
@@ -89,7 +100,8 @@ impl Draft {
 
     /// The questions of a declaration, and the column that it adds.
     fn may_declare(&self, table: usize, kind: u8, domain: u8) -> Result<Column, Refusal>
-        ensures { λ r. ⌜ Answers r (mayDeclare (columnsIn (now (self .entry) .tables)) table kind domain) ⌝ }
+        ensures answers { λ r. ⌜ Answers r (mayDeclare (columnsIn (now (self .entry) .tables)) table kind domain) ⌝ }
+        ensures takes { λ r. ⌜ made r (Takes (columnsIn (now (self .entry) .tables)) table) ⌝ }
     {
         if table >= 4 {
             return Err(Refusal::NoTable);
@@ -106,15 +118,23 @@ impl Draft {
         Ok(Column { kind, domain })
     }
 
+    /// Adds a column that the table has room for and its domain takes.
+    fn add(&mut self, table: usize, column: Column)
+        requires { ⌜ Takes (columnsIn (now self .tables)) table column ⌝ }
+        ensures { λ _. ⌜ columnsIn (now (self .exit) .tables) ≡ added (columnsIn (now (self .entry) .tables)) table column ⌝ }
+    {
+        let mut columns = self.tables[table];
+        columns.push(column);
+        self.tables[table] = columns;
+    }
+
     /// Adds a column of this kind and domain at the end of a table.
     pub fn declare(&mut self, table: usize, kind: u8, domain: u8) -> Result<(), Refusal>
         ensures step { λ r. ⌜ Steps r (declared (columnsIn (now (self .entry) .tables)) table kind domain) (columnsIn (now (self .entry) .tables)) (columnsIn (now (self .exit) .tables)) ⌝ }
         ensures kept { λ r. ⌜ Kept r (now (self .entry)) (now (self .exit)) ⌝ }
     {
         let column = self.may_declare(table, kind, domain)?;
-        let mut columns = self.tables[table];
-        columns.push(column);
-        self.tables[table] = columns;
+        self.add(table, column);
         Ok(())
     }
 }

@@ -1,12 +1,14 @@
 ghost use mathlib.Core.Path.{_≡_};
+ghost use mathlib.Core.List.{[], map};
 ghost use Prim.Native.Nat.{ℕ, _<_, _≤_};
-ghost use lib.ListN.{length, take, drop};
+ghost use lib.ListN.{length, getD, take, drop};
 ghost use Rattle.semantics.specs.Books.{columnsOf, rowsOf, limitOf};
+ghost use Rattle.cells.specs.Cells.{cellValue};
 ghost use Rattle.book.specs.Books.{bookModel, RowAt};
 ghost use Rattle.book.specs.Layout.{rowStart};
-
 use crate::book::Book;
 use crate::book::Rows;
+use crate::declare::columns_of;
 use cells::Cell;
 use semantics::Column;
 
@@ -34,25 +36,25 @@ impl Book<'_> {
     pub fn columns(&self, table: usize) -> &[Column]
         ensures { λ r. ⌜ now r ≡ columnsOf (bookModel (now (self .entry))) table ⌝ }
     {
-        if table < 4 { self.tables[table].listed() } else { &[] }
-    }
-
-    /// How many columns a table has, none where there is no such table.
-    pub fn column_count(&self, table: usize) -> usize
-        ensures value { λ r. ⌜ r ≡ length (columnsOf (bookModel (now (self .entry))) table) ⌝ }
-        ensures few { λ r. ⌜ r ≤ 8 ⌝ }
-    {
-        if table >= 4 {
-            return 0;
-        }
-        self.tables[table].width
+        columns_of(&self.tables, table)
     }
 
     /// How many rows a table has, none where there is no such table.
     pub fn row_count(&self, table: usize) -> usize
         ensures { λ r. ⌜ r ≡ length (rowsOf (bookModel (now (self .entry))) table) ⌝ }
     {
-        if table < 4 { self.rows.counts[table] } else { 0 }
+        if table >= 4 {
+            return 0;
+        }
+        self.rows.counts[table]
+    }
+
+    /// The cells of a row that there is.
+    fn cells_of(&self, table: usize, row: usize) -> &[Cell]
+        requires { ⌜ row < length (rowsOf (bookModel (now self)) table) ⌝ }
+        ensures { λ r. ⌜ map cellValue (now r) ≡ getD (rowsOf (bookModel (now (self .entry))) table) row [] ⌝ }
+    {
+        self.rows.part(table, row, self.tables[table].width)
     }
 
     /// The cells of a row, where there is one of this number.
@@ -62,6 +64,6 @@ impl Book<'_> {
         if row >= self.row_count(table) {
             return None;
         }
-        Some(self.rows.part(table, row, self.tables[table].width))
+        Some(self.cells_of(table, row))
     }
 }

@@ -4,12 +4,11 @@ ghost use Prim.Native.Nat.{ℕ, _+_, _<_, _≤_};
 ghost use lib.ListN.{length, getD, set};
 ghost use Rattle.std.specs.shelf.Lists.{paste};
 ghost use Rattle.semantics.specs.Books.{limitOf, fitting, mayStore, stored};
-ghost use Rattle.semantics.specs.Outcomes.{Answers, Steps, Kept};
+ghost use Rattle.semantics.specs.Outcomes.{Answers, Steps, Kept, done};
 ghost use Rattle.cells.specs.Cells.{cellValue};
-ghost use Rattle.book.specs.Books.{bookModel, memory};
+ghost use Rattle.book.specs.Books.{bookModel, memory, UnusedAreZero};
 ghost use Rattle.book.specs.Columns.{listed};
-ghost use Rattle.book.specs.Layout.{rowStart, Laid};
-
+ghost use Rattle.book.specs.Layout.{rowStart};
 use crate::book::Book;
 use crate::book::Rows;
 use crate::columns::Columns;
@@ -66,14 +65,22 @@ impl Book<'_> {
         Ok(())
     }
 
+    /// Puts a row behind the last of a table that may have it.
+    fn append(&mut self, table: usize, row: &[Cell])
+        requires { ⌜ mayStore (bookModel (now self)) table (map cellValue (now row)) ≡ done tt ⌝ }
+        ensures { λ _. ⌜ stored (bookModel (now (self .entry))) table (map cellValue (now (row .entry))) ≡ done (bookModel (now (self .exit))) ⌝ }
+    {
+        self.rows.push(table, row);
+    }
+
     /// Appends a row to a table.
     pub fn store(&mut self, table: usize, row: &[Cell]) -> Result<(), Refusal>
         ensures step { λ r. ⌜ Steps r (stored (bookModel (now (self .entry))) table (map cellValue (now (row .entry)))) (bookModel (now (self .entry))) (bookModel (now (self .exit))) ⌝ }
         ensures kept { λ r. ⌜ Kept r (memory (now (self .entry))) (memory (now (self .exit))) ⌝ }
-        ensures laid { λ _. ⌜ Laid (bookModel (now (self .exit))) (memory (now (self .exit))) ⌝ }
+        ensures clean { λ _. ⌜ UnusedAreZero (now (self .exit)) ⌝ }
     {
         self.may_store(table, row)?;
-        self.rows.push(table, row);
+        self.append(table, row);
         Ok(())
     }
 }

@@ -2,10 +2,9 @@ ghost use mathlib.Core.Path.{_≡_};
 ghost use Prim.Native.Nat.{ℕ, _-_, _<_, _≤_};
 ghost use lib.ListN.{length, getD, set};
 ghost use Rattle.semantics.specs.Books.{limitOf, mayStrike, struck};
-ghost use Rattle.semantics.specs.Outcomes.{Answers, Steps, Kept};
-ghost use Rattle.book.specs.Books.{bookModel, memory};
-ghost use Rattle.book.specs.Layout.{Laid, Removed};
-
+ghost use Rattle.semantics.specs.Outcomes.{Answers, Steps, Kept, done};
+ghost use Rattle.book.specs.Books.{bookModel, memory, UnusedAreZero};
+ghost use Rattle.book.specs.Layout.{Removed};
 use crate::book::Book;
 use crate::book::Rows;
 use cells::Cell;
@@ -46,14 +45,22 @@ impl Book<'_> {
         Ok(())
     }
 
+    /// Takes away a row that there is.
+    fn remove(&mut self, table: usize, row: usize)
+        requires { ⌜ mayStrike (bookModel (now self)) table row ≡ done tt ⌝ }
+        ensures { λ _. ⌜ struck (bookModel (now (self .entry))) table row ≡ done (bookModel (now (self .exit))) ⌝ }
+    {
+        self.rows.remove(table, row);
+    }
+
     /// Strikes a row; later rows of its table move up by one.
     pub fn strike(&mut self, table: usize, row: usize) -> Result<(), Refusal>
         ensures step { λ r. ⌜ Steps r (struck (bookModel (now (self .entry))) table row) (bookModel (now (self .entry))) (bookModel (now (self .exit))) ⌝ }
         ensures kept { λ r. ⌜ Kept r (memory (now (self .entry))) (memory (now (self .exit))) ⌝ }
-        ensures laid { λ _. ⌜ Laid (bookModel (now (self .exit))) (memory (now (self .exit))) ⌝ }
+        ensures clean { λ _. ⌜ UnusedAreZero (now (self .exit)) ⌝ }
     {
         self.may_strike(table, row)?;
-        self.rows.remove(table, row);
+        self.remove(table, row);
         Ok(())
     }
 }

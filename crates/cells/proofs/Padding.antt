@@ -27,5 +27,5 @@ module _ (bytes front : List ℕ) (m : ℕ) (few : length bytes ≤ 8) (is : fro
       getD-append-right front (drop m (replicate 8 0)) (length bytes) k 0 length-front h
       ∙ (getD-drop m (replicate 8 0) (k - length bytes) 0 ∙ zero-at (m + (k - length bytes)))
     where
-    zero-at : (j : ℕ) → _≡_ {A = ℕ} (getD (replicate 8 0) j 0) 0
-    zero-at j = ⊎-elim (λ (l : j < 8). getD-replicate 8 j 0 0 l) (λ (l : 8 ≤ j). getD-past (replicate 8 0) j 0 l) (cases-lt j 8)
+      zero-at : (j : ℕ) → _≡_ {A = ℕ} (getD (replicate 8 0) j 0) 0
+      zero-at j = ⊎-elim (λ (l : j < 8). getD-replicate 8 j 0 0 l) (λ (l : 8 ≤ j). getD-past (replicate 8 0) j 0 l) (cases-lt j 8)

@@ -9,6 +9,6 @@ use Rattle.cells.specs.declared.prefix.Prefix.{Prefix}
 abbrev pub digitsOf : Prefix → List ℕ
 digitsOf p = take (p .count) (p .places)
 
--- Two prefixes are kept in the same way.
-abbrev pub SameStructure : Prefix → Prefix → Type 0
-SameStructure p q = (p .places ≡ q .places) × (p .count ≡ q .count)
+-- Prefixes with the same digits are kept in the same way.
+abbrev pub Canonical : Type 0
+Canonical = (p q : Prefix) → digitsOf p ≡ digitsOf q → (p .places ≡ q .places) × (p .count ≡ q .count)

@@ -1,7 +1,6 @@
 ghost use mathlib.Core.Path.{_≡_};
-ghost use Rattle.semantics.specs.Values.{kindOf};
+ghost use Rattle.semantics.specs.Values.{kindOf, sameValue};
 ghost use Rattle.cells.specs.Cells.{cellValue};
-
 use crate::prefix::Prefix;
 use crate::prefix::PrefixDebug;
 use semantics::Kind;
@@ -28,6 +27,17 @@ impl Cell {
         match self {
             Cell::Number(_) => Kind::Number,
             Cell::Prefix(_) => Kind::Prefix,
+        }
+    }
+
+    /// Whether the cells hold the same value.
+    pub fn same(&self, other: &Cell) -> bool
+        ensures { λ r. ⌜ r ≡ sameValue (cellValue (now (self .entry))) (cellValue (now (other .entry))) ⌝ }
+    {
+        match (self, other) {
+            (Cell::Number(a), Cell::Number(b)) => a == b,
+            (Cell::Prefix(a), Cell::Prefix(b)) => a.digits() == b.digits(),
+            _ => false,
         }
     }
 }

@@ -1,9 +1,11 @@
 ghost use mathlib.Core.Path.{_≡_};
+ghost use mathlib.Core.Bool.{true};
+ghost use Prim.Native.Nat.{_≤_};
+ghost use lib.ListN.{length};
 ghost use Rattle.semantics.specs.Lists.{every};
 ghost use Rattle.semantics.specs.Outcomes.{AnswersAs};
 ghost use Rattle.semantics.specs.Values.{isDigit, prefixFrom};
-ghost use Rattle.cells.specs.Prefixes.{digitsOf, SameStructure};
-
+ghost use Rattle.cells.specs.Prefixes.{digitsOf, Canonical};
 use crate::prefix::Prefix;
 use semantics::Refusal;
 
@@ -20,24 +22,39 @@ pub fn all_digits(bytes: &[u8]) -> bool
 }
 
 impl Prefix {
+    /// At most 8 digits, and 0 in the places past them.
+    fn padded(digits: &[u8]) -> Prefix
+        requires { ⌜ length (now digits) ≤ 8 ⌝ ∗ ⌜ every isDigit (now digits) ≡ true ⌝ }
+        ensures { λ r. ⌜ digitsOf r ≡ now (digits .entry) ⌝ }
+    {
+        let count = digits.len();
+        let mut places = [0; 8];
+        places[0..count].copy_from_slice(digits);
+        Prefix {
+            places,
+            count: count as u8,
+        }
+    }
+
     /// The prefix with these digits.
     pub fn from_bytes(bytes: &[u8]) -> Result<Prefix, Refusal>
         ensures { λ r. ⌜ AnswersAs digitsOf r (prefixFrom (now (bytes .entry))) ⌝ }
     {
-        let count = bytes.len();
-        if count > 8 || !all_digits(bytes) {
+        if bytes.len() > 8 || !all_digits(bytes) {
             return Err(Refusal::NotPrefix);
         }
-        let mut places = [0; 8];
-        places[0..count].copy_from_slice(bytes);
-        Ok(Prefix { places, count: count as u8 })
+        Ok(Prefix::padded(bytes))
     }
 
-    /// The digits of the prefix. No other structure has the same digits.
+    /// The digits of the prefix.
     pub fn digits(&self) -> &[u8]
-        ensures value { λ r. ⌜ now r ≡ digitsOf (now (self .entry)) ⌝ }
-        ensures canonical { λ r. ⌜ ((other : Prefix) → digitsOf other ≡ now r → SameStructure other (now (self .entry))) ⌝ }
+        ensures { λ r. ⌜ now r ≡ digitsOf (now (self .entry)) ⌝ }
     {
         &self.places[0..self.count as usize]
     }
 }
+
+/// Prefixes with the same digits are the same structure.
+pub(crate) fn prefixes_are_canonical()
+    ensures { λ _. ⌜ Canonical ⌝ }
+{}

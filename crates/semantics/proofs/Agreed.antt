@@ -12,7 +12,7 @@ use Rattle.std.proofs.shelf.Ways.{tells}
 use Rattle.semantics.specs.declared.kind.Kind.{Kind}
 use Rattle.semantics.specs.declared.kind.Kind.the-variants.{Number, Prefix}
 use Rattle.semantics.specs.declared.kind.Column.{Column}
-use Rattle.semantics.specs.Drafts.{suits, agree, admits, agreed, mayDeclare}
+use Rattle.semantics.specs.Drafts.{suits, agree, admits, agreed, added, mayDeclare}
 use Rattle.semantics.specs.Kinds.{sameKind}
 use Rattle.semantics.specs.Lists.{every}
 use Rattle.semantics.specs.Outcomes.{done}
@@ -31,7 +31,7 @@ same-turned Prefix Prefix = refl
 -- the columns `S`, the table `t` and the column `n` that it gets
 module _ (S : List (List Column)) (t : ℕ) (n : Column) (taken : admits S (n .kind) (n .domain) ≡ true) where
   abbrev after : List (List Column)
-  after = set S t (getD S t [] ++ n ∷ [])
+  after = added S t n
 
   -- a test of the columns that every old one passes, and the new one
   spread : (p : Column → Bool) → every (every p) S ≡ true → p n ≡ true → every (every p) after ≡ true
@@ -46,29 +46,29 @@ module _ (S : List (List Column)) (t : ℕ) (n : Column) (taken : admits S (n .k
   all-beside : every (every beside) S ≡ true
   all-beside =
       ⊎-elim
-        (λ (e : n .domain ≡ 0). every-of (every beside) (every-of beside (λ c. or-left (eqb (n .domain) 0) (suits (n .domain) (n .kind) c) (eq-eqb (n .domain) 0 e))) S)
-        (λ (ne : n .domain ≡ 0 → ⊥).
-          let h : agree S (n .kind) (n .domain) ≡ true = grind (arith, tells) in
-          every-from (every (suits (n .domain) (n .kind))) (every (suits (n .domain) (n .kind))) (every beside)
-          (λ cs. every-from (suits (n .domain) (n .kind)) (suits (n .domain) (n .kind)) beside (λ c u v. or-right (eqb (n .domain) 0) (suits (n .domain) (n .kind) c) u) cs) S h h)
-        (cases-eq (n .domain) 0)
+      (λ (e : n .domain ≡ 0). every-of (every beside) (every-of beside (λ c. or-left (eqb (n .domain) 0) (suits (n .domain) (n .kind) c) (eq-eqb (n .domain) 0 e))) S)
+      (λ (ne : n .domain ≡ 0 → ⊥).
+      let h : agree S (n .kind) (n .domain) ≡ true = grind (arith, tells) in
+      every-from (every (suits (n .domain) (n .kind))) (every (suits (n .domain) (n .kind))) (every beside)
+      (λ cs. every-from (suits (n .domain) (n .kind)) (suits (n .domain) (n .kind)) beside (λ c u v. or-right (eqb (n .domain) 0) (suits (n .domain) (n .kind) c) u) cs) S h h)
+      (cases-eq (n .domain) 0)
 
   keeps : (c : Column) → admits S (c .kind) (c .domain) ≡ true → beside c ≡ true → admits after (c .kind) (c .domain) ≡ true
   keeps c old near =
       ⊎-elim
-        (λ (e : c .domain ≡ 0). or-left (eqb (c .domain) 0) _ (eq-eqb (c .domain) 0 e))
-        (λ (ne : c .domain ≡ 0 → ⊥).
-          let h : (ltb (c .domain) 16 ≡ true) × (agree S (c .kind) (c .domain) ≡ true) = grind (arith, tells) in
-          let turn = same-turned (c .kind) (n .kind) in
-          let new : suits (c .domain) (c .kind) n ≡ true = grind (arith, tells) in
-          or-right (eqb (c .domain) 0) _ (and-from (ltb (c .domain) 16) _ (h .0) (spread (suits (c .domain) (c .kind)) (h .1) new)))
-        (cases-eq (c .domain) 0)
+      (λ (e : c .domain ≡ 0). or-left (eqb (c .domain) 0) _ (eq-eqb (c .domain) 0 e))
+      (λ (ne : c .domain ≡ 0 → ⊥).
+      let h : (ltb (c .domain) 16 ≡ true) × (agree S (c .kind) (c .domain) ≡ true) = grind (arith, tells) in
+      let turn = same-turned (c .kind) (n .kind) in
+      let new : suits (c .domain) (c .kind) n ≡ true = grind (arith, tells) in
+      or-right (eqb (c .domain) 0) _ (and-from (ltb (c .domain) 16) _ (h .0) (spread (suits (c .domain) (c .kind)) (h .1) new)))
+      (cases-eq (c .domain) 0)
 
   pub declare-agreed : agreed S ≡ true → agreed after ≡ true
   declare-agreed all =
       spread (λ c. admits after (c .kind) (c .domain))
       (every-from (every (λ c. admits S (c .kind) (c .domain))) (every beside) (every (λ c. admits after (c .kind) (c .domain)))
-        (λ cs. every-from (λ c. admits S (c .kind) (c .domain)) beside (λ c. admits after (c .kind) (c .domain)) keeps cs) S all all-beside)
+      (λ cs. every-from (λ c. admits S (c .kind) (c .domain)) beside (λ c. admits after (c .kind) (c .domain)) keeps cs) S all all-beside)
       (keeps n taken (or-right (eqb (n .domain) 0) _ (or-right (not (eqb (n .domain) (n .domain))) _ (same-self (n .kind)))))
 
 -- what the questions of a declaration leave known

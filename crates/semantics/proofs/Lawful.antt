@@ -78,9 +78,9 @@ module _ (m : Model) (t : ℕ) (law : lawful m ≡ true) where
       let l = length-set (rowsOf m t) r (set (getD (rowsOf m t) r []) c v) in
       change (set (rowsOf m t) r (set (getD (rowsOf m t) r []) c v)) (omega arith)
       (every-set (fits (columnsOf m t)) (rowsOf m t) r (set (getD (rowsOf m t) r []) c v)
-        (pairwise-set (λ x y. sameKind (x .kind) (kindOf y)) (columnsOf m t) (getD (rowsOf m t) r []) c (columnAt [] 0) v (k .3)
-          (every-at (fits (columnsOf m t)) (rowsOf m t) r [] (k .1) rows-fit))
-        rows-fit)
+      (pairwise-set (λ x y. sameKind (x .kind) (kindOf y)) (columnsOf m t) (getD (rowsOf m t) r []) c (columnAt [] 0) v (k .3)
+      (every-at (fits (columnsOf m t)) (rowsOf m t) r [] (k .1) rows-fit))
+      rows-fit)
 
 -- an opened book
 pub open-lawful : (columns : List (List Column)) (cells : ℕ) → length columns ≡ 4 → lawful (opened columns cells) ≡ true

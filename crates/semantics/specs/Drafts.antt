@@ -40,11 +40,15 @@ mayDeclare columns t kind domain =
     (question (admits columns kind domain) WrongDomain
     (done (record { kind = kind; domain = domain }))))))
 
--- The columns after a declaration: one more at the end of its table.
+-- The columns with one more at the end of a table.
+abbrev pub added : List (List Column) → ℕ → Column → List (List Column)
+added columns t column = set columns t (getD columns t [] ++ column ∷ [])
+
+-- Declare: the columns with the new one.
 abbrev pub declared : List (List Column) → ℕ → ℕ → ℕ → Outcome (List (List Column))
 declared columns t kind domain =
     andThen (mayDeclare columns t kind domain) (λ column.
-    done (set columns t (getD columns t [] ++ column ∷ [])))
+    done (added columns t column))
 
 -- Do the columns of each domain agree? All columns that declarations make do.
 abbrev pub agreed : List (List Column) → Bool

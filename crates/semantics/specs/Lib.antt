@@ -5,6 +5,15 @@ pub mod Lists
 pub mod Values
 pub mod Drafts
 pub mod Books
+pub mod Marks
+pub mod Policies
+pub mod Views
+pub mod Standing
+pub mod Indistinguishable
+pub mod Faithful
+pub mod Wider
+pub mod Valuations
+pub mod Orderly
 pub mod Operators
 pub mod Bytes
 pub mod Walks

@@ -5,5 +5,5 @@ use Rattle.book.specs.Columns.{columnsIn}
 use Rattle.book.proofs.Memory.{count-at}
 use Rattle.book.proofs.book.Book.row_count.Needs as need
 
-pub returns-then-table-lt4 : need.returns-then-table-lt4
-returns-then-table-lt4 c = let s = c .args .self .now in sym (count-at (columnsIn (s .tables)) (s .rows .counts) (memory s) (c .args .table) (omega arith))
+pub returns : need.returns
+returns c = let s = c .args .self .now in sym (count-at (columnsIn (s .tables)) (s .rows .counts) (memory s) (c .args .table) (omega arith))

@@ -18,10 +18,11 @@ copy-within-requires c κs =
 
 pub loop-r-again : need.loop-r-again
 loop-r-again c =
-    let p = c .copy-within .ensures .places in
-    ( c .loop-r .inv .0
-    , moved-more (c .args .table) (c .args .row) (c .loop-r .r) (now (c .args .self .now .cells)) (c .loop-r .self .cells .now) (c .copy-within .last .self) (omega arith) (c .loop-r .kept .r) (c .copy-within .ensures .len)
-      (λ k d a b. p .0 k d a (omega arith)) (λ k d a. p .1 k d a) (λ k d a. p .2 k d (omega arith)) (c .loop-r .inv .1) )
+    let p = c .copy-within .ensures .places in (
+      c .loop-r .inv .0,
+      moved-more (c .args .table) (c .args .row) (c .loop-r .r) (now (c .args .self .now .cells)) (c .loop-r .self .cells .now) (c .copy-within .last .self) (omega arith) (c .loop-r .kept .r) (c .copy-within .ensures .len)
+          (λ k d a b. p .0 k d a (omega arith)) (λ k d a. p .1 k d a) (λ k d a. p .2 k d (omega arith)) (c .loop-r .inv .1),
+    )
 
 pub returns : need.returns
 returns c =
@@ -32,10 +33,11 @@ returns c =
     let moved = c .loop-r .self .cells .now in
     let z = c .loop-r .inv .1 .size in
     let e : c .loop-r .r ≡ n = omega (arith, c .loop-r .kept .r-end (omega arith)) in
-    record
-      { counts = ap (λ ns. set ns t n) (c .loop-r .inv .0)
-      ; cells =
+    record {
+      counts = ap (λ ns. set ns t n) (c .loop-r .inv .0);
+      cells =
           subst (Removed t (c .args .row) n (now (s .cells)))
           (sym (putMid-paste at (at + 8 - at) moved (c .fill .last .self) (replicate 8 (Number 0)) 8 (c .fill .ensures .after (λ y e. e) ∙ ap (λ m. replicate m (Number 0)) (part-eight moved at (omega arith))) (omega arith) refl))
           (removed-is t (c .args .row) n (now (s .cells)) moved (omega arith) (omega arith) (rw z (omega arith))
-            (subst (λ i. Moved t (c .args .row) i (now (s .cells)) moved) e (c .loop-r .inv .1))) }
+          (subst (λ i. Moved t (c .args .row) i (now (s .cells)) moved) e (c .loop-r .inv .1)));
+    }

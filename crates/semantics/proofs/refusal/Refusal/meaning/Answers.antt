@@ -28,9 +28,6 @@ returns-in-WrongWidth c = rw (c .in-WrongWidth .is)
 pub returns-in-WrongKind : need.returns-in-WrongKind
 returns-in-WrongKind c = rw (c .in-WrongKind .is)
 
-pub returns-in-TableFull : need.returns-in-TableFull
-returns-in-TableFull c = rw (c .in-TableFull .is)
-
 pub returns-in-QueryLength : need.returns-in-QueryLength
 returns-in-QueryLength c = rw (c .in-QueryLength .is)
 

@@ -1,0 +1,4 @@
+pub mod EqualViews
+pub mod Translation
+pub mod OwnValues
+pub mod SeenKinds

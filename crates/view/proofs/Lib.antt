@@ -1,0 +1,5 @@
+pub mod Memory
+pub mod Books
+pub mod Finding
+pub mod Order
+pub mod Drawing
