@@ -39,18 +39,6 @@ impl Book<'_> {
         columns_of(&self.tables, table)
     }
 
-    /// How many columns a table has, none where there is no such table.
-    pub fn column_count(&self, table: usize) -> usize
-        ensures value { λ r. ⌜ r ≡ length (columnsOf (bookModel (now (self .entry))) table) ⌝ }
-        ensures few { λ r. ⌜ r ≤ 8 ⌝ }
-    {
-        if table < 4 {
-            self.tables[table].width
-        } else {
-            0
-        }
-    }
-
     /// How many rows a table has, none where there is no such table.
     pub fn row_count(&self, table: usize) -> usize
         ensures { λ r. ⌜ r ≡ length (rowsOf (bookModel (now (self .entry))) table) ⌝ }

@@ -33,10 +33,11 @@ fn table(table: u8, number: usize, book: &Book) -> Result<Step, Refusal>
     if t >= 4 {
         return Err(Refusal::NoSuchName(number as u8));
     }
-    if book.column_count(t) == 0 {
+    let columns = book.columns(t);
+    if columns.len() == 0 {
         return Err(Refusal::NoSuchName(number as u8));
     }
-    let kinds = Kinds::of_columns(book.columns(t));
+    let kinds = Kinds::of_columns(columns);
     Ok(Step {
         left: 0,
         start: number,
