@@ -142,7 +142,7 @@ certain-stand meaning columns cells four agree calls proper broker query workLen
     }
 
 -- Sharpening.
-wider-stand : (meaning : Meaning) → WiderSharpens meaning
+pub wider-stand : (meaning : Meaning) → WiderSharpens meaning
 wider-stand meaning wide columns cells calls broker wider q = wider-sharpens meaning wide broker (reached (opened columns cells) calls) wider q
 
 pub laws-hold : LawsHold
