@@ -6,3 +6,5 @@ pub mod Bounded
 pub mod Samples
 pub mod NoRepeats
 pub mod Joinable
+pub mod Bare
+pub mod Promises

@@ -8,3 +8,4 @@ pub mod Repeats
 pub mod Sample
 pub mod Compatible
 pub mod Small
+pub mod Runs

@@ -25,3 +25,6 @@ pub mod Records
 pub mod Reading
 pub mod Truths
 pub mod Answers
+pub mod Replies
+pub mod Asks
+pub mod Runs
