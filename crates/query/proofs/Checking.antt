@@ -1,7 +1,7 @@
 -- The loop of the check over the records of a query.
 use mathlib.Core.Path.{_≡_, refl, sym, ap, subst, _∙_}
 use mathlib.Core.Bool.{Bool, true, false, cond, _&&_}
-use mathlib.Core.List.{List, [], _∷_, _++_}
+use mathlib.Core.List.{List, [], _∷_, _++_, map}
 use mathlib.Core.Logic.{_⊎_, inl, inr, ⊎-elim}
 use Prim.Native.Nat.{ℕ, _+_, _-_, _≤_, _<_, zero, suc}
 use native.Mathlib.Omega.{arith}
@@ -28,7 +28,12 @@ use Rattle.query.specs.declared.record.Record.the-variants.{Table, Select, Pro
 use Rattle.query.specs.Plans.{Plans, laid, asked, lone}
 use Rattle.query.specs.Saying.{First, firstSaid, Says, Short}
 use Rattle.query.specs.declared.step.Step.{Step}
-use Rattle.query.specs.Plans.{StepIs}
+use Rattle.query.specs.declared.plan.Position.{Position}
+use Rattle.query.specs.Plans.{StepIs, recordAt}
+use Rattle.std.proofs.shelf.Lists.{drop-all, getD-map, take-rest}
+use Rattle.std.proofs.shelf.Tests.{lt-ltb, le-ltb}
+use lib.Dec.{ltb}
+use lib.ListN.{getD}
 use Rattle.query.proofs.Going.{first-less}
 use denote.Ref.{RefT, now}
 use Rattle.std.specs.declared.result.Result.{Result}
@@ -196,3 +201,21 @@ module _ (columns : List (List Column)) (n : ℕ) (stack : List Tree) (said : Re
   by-difference is f =
       let k : Says n Difference says = subst (λ (s : Record). Says n s says) is h in
       subst (λ (s : records.Record). StepIs columns stack s r (asked columns n stack s)) (sym k) f
+
+-- a record of a plan is read again
+module _ (plan : Plan) (bs : List ℕ) (i : ℕ) where
+  pub said-past : plan .count ≤ i → recordAt plan bs i ≡ refuse (BrokenRecord i)
+  said-past h = let t : ltb i (plan .count) ≡ false = le-ltb _ _ h in rw t
+
+  said-here : (p : Position) → i < plan .count → recordAt plan bs i ≡ firstSaid i (drop (getD (plan .positions) i p .at) bs)
+  said-here p h =
+      let t : ltb i (plan .count) ≡ true = lt-ltb _ _ h in
+      let g = getD-map (λ (p : Position). p .at) (plan .positions) i p 0 (omega (arith, plan .few, plan .placed)) in
+      ap (λ b. question b (BrokenRecord i) (firstSaid i (drop (getD (map (λ (p : Position). p .at) (plan .positions)) i 0) bs))) t
+      ∙ ap (λ m. firstSaid i (drop m bs)) g
+
+  pub said-beyond : (p : Position) → i < plan .count → length bs < getD (plan .positions) i p .at → recordAt plan bs i ≡ refuse (BrokenRecord i)
+  said-beyond p h l = said-here p h ∙ ap (firstSaid i) (drop-all (getD (plan .positions) i p .at) bs (omega arith))
+
+  pub said-in : (p : Position) → i < plan .count → firstSaid i (take (length bs - getD (plan .positions) i p .at) (drop (getD (plan .positions) i p .at) bs)) ≡ recordAt plan bs i
+  said-in p h = ap (firstSaid i) (take-rest bs (getD (plan .positions) i p .at)) ∙ sym (said-here p h)

@@ -1,8 +1,9 @@
 -- What a plan stands for: the relations of a query by record number.
 use mathlib.Core.Path.{_≡_}
 use mathlib.Core.Bool.{Bool, true, false}
-use mathlib.Core.List.{List, [], _∷_, _++_}
+use mathlib.Core.List.{List, [], _∷_, _++_, map}
 use Prim.Native.Nat.{ℕ, _+_, _-_, _≤_, _<_}
+use lib.Dec.{ltb}
 use lib.ListN.{length, getD, drop}
 use Rattle.std.specs.declared.option.Option.{Option}
 use Rattle.std.specs.declared.option.Option.the-variants.{Some, None}
@@ -10,7 +11,7 @@ use Rattle.std.specs.declared.result.Result.{Result}
 use Rattle.std.specs.declared.result.Result.the-variants.{Ok, Err}
 use Rattle.semantics.specs.declared.kind.Column.{Column}
 use Rattle.semantics.specs.declared.refusal.Refusal.{Refusal}
-use Rattle.semantics.specs.declared.refusal.Refusal.the-variants.{StackShort, NoSuchName, Unfit, ProductTooWide}
+use Rattle.semantics.specs.declared.refusal.Refusal.the-variants.{BrokenRecord, StackShort, NoSuchName, Unfit, ProductTooWide}
 use Rattle.semantics.specs.Outcomes.{Outcome, done, refuse, question, andThen}
 use Rattle.semantics.specs.Queries.{Tree, table, select, project, product, union, difference, nodes, kindsOf, named, fitted, narrow}
 use Rattle.semantics.specs.Reading.{Grown, grown}
@@ -19,9 +20,10 @@ use Rattle.semantics.specs.Records.{recordOf}
 use Rattle.query.specs.declared.kinds.Kinds.{Kinds}
 use Rattle.query.specs.declared.plan.Position.{Position}
 use Rattle.query.specs.declared.plan.Plan.{Plan}
+use Rattle.query.specs.declared.record.Record.{Record}
 use Rattle.query.specs.declared.step.Step.{Step}
 use Rattle.query.specs.Kinds.{kindsIn}
-use Rattle.query.specs.Saying.{First, firstSaid}
+use Rattle.query.specs.Saying.{First, firstSaid, Says}
 
 -- The parts of relation number `i`: the left or only one has the number `left`, the right one stands just before.
 abbrev pub Parted : List Tree → ℕ → ℕ → Tree → Type 0
@@ -93,3 +95,16 @@ lone (x ∷ (y ∷ below)) = false
 abbrev pub Checks : List (List Column) → List ℕ → Result Plan Refusal → Outcome Tree → Type 0
 Checks columns bytes (Ok plan) o = (q : Tree) × (o ≡ done q) × Plans columns bytes plan (nodes q)
 Checks columns bytes (Err e) o = o ≡ refuse e
+
+-- Where record number `i` of the plan begins.
+abbrev pub beginning : Plan → ℕ → ℕ
+beginning plan i = getD (map (λ (p : Position). p .at) (plan .positions)) i 0
+
+-- What record number `i` of the plan says in these bytes.
+abbrev pub recordAt : Plan → List ℕ → ℕ → Outcome First
+recordAt plan bytes i = question (ltb i (plan .count)) (BrokenRecord i) (firstSaid i (drop (beginning plan i) bytes))
+
+-- The code has read this record, or there is none.
+abbrev pub SaidIs : ℕ → Option Record → Outcome First → Type 0
+SaidIs i (Some said) o = (f : First) × (o ≡ done f) × Says i said (f .says)
+SaidIs i None o = (e : Refusal) × (o ≡ refuse e)
