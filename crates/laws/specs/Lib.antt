@@ -9,3 +9,4 @@ pub mod Sample
 pub mod Compatible
 pub mod Small
 pub mod Runs
+pub mod Replies

@@ -73,7 +73,7 @@ SharpenedBy narrow wide broker m =
     → (q : Tree) → Sharpened (view narrow broker m) (view wide broker m) (translated (marks narrow broker m) (marks wide broker m) m) q
 
 -- Sharpening: after any calls, a wider policy takes back no certain row and adds no row.
--- Were an ask to alter the book, the two policies would answer over different books, and this would fail.
+-- Were different variables known to differ, showing two cells of one value could make a certain row go, and this would fail.
 abbrev pub WiderSharpens : Meaning → Type 0
 WiderSharpens meaning =
     (wide : Meaning) (columns : List (List Column)) (cells : ℕ) (calls : List Call) (broker : ℕ)
