@@ -68,8 +68,8 @@ module _ (meaning : Meaning) where
       → outcome meaning a x ≡ outcome meaning b y
   same-outcome a b x y e s h =
       let k : handed meaning a x ≡ handed meaning b y =
-          sym (handed-bare a x) ∙ ap (handed meaning a) s
-          ∙ handed-same a b (withoutSecrets y) (subst (CannotTell meaning a b) s (bare-cannot a b x h)) ∙ handed-bare b y in
+      sym (handed-bare a x) ∙ ap (handed meaning a) s
+      ∙ handed-same a b (withoutSecrets y) (subst (CannotTell meaning a b) s (bare-cannot a b x h)) ∙ handed-bare b y in
       outcome-bare a x ∙ (λ i. andThen (carriedOut (e i) (s i)) (λ _. k i)) ∙ sym (outcome-bare b y)
 
   same-runs : (a b : Model) (xs ys : List Call) → bare a ≡ bare b → map withoutSecrets xs ≡ map withoutSecrets ys
@@ -113,7 +113,7 @@ replied-done : (tables : List (List (List Masked))) (workLength replyLength : �
     → replied tables workLength replyLength q ≡ done bytes → bytes ≡ replyTo tables q
 replied-done tables workLength replyLength q bytes e =
     let h = over-done (overflow (capacity workLength) tables q)
-        (question (leb (length (replyTo tables q)) replyLength) (ReplyTooLong (length (nodes q))) (done (replyTo tables q))) bytes e in
+    (question (leb (length (replyTo tables q)) replyLength) (ReplyTooLong (length (nodes q))) (done (replyTo tables q))) bytes e in
     let k = question-done (leb (length (replyTo tables q)) replyLength) (ReplyTooLong (length (nodes q))) (done (replyTo tables q)) bytes h in
     sym (done-same (replyTo tables q) bytes (k .1))
 
