@@ -1,5 +1,4 @@
-//! A second reader of queries, written from the rules of queries alone. It shares no code with the
-//! proved reader.
+//! A second reader of queries, by the rules of queries. It shares no code with the proved reader.
 
 #[derive(Clone, Copy, PartialEq, Eq, Debug)]
 pub enum Kind {
