@@ -1,5 +1,5 @@
 //! Holds the proved reader, compiled, against the reader of this folder on many byte strings.
-//! Arguments: the count of strings and the seed.
+//! Arguments: how many strings, and a seed.
 
 mod reader;
 mod strings;
