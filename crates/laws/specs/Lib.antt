@@ -10,3 +10,4 @@ pub mod Compatible
 pub mod Small
 pub mod Runs
 pub mod Replies
+pub mod ReadBack

@@ -31,3 +31,4 @@ pub mod Fresh
 pub mod Joined
 pub mod Pushes
 pub mod Small
+pub mod ReadBack
