@@ -11,3 +11,4 @@ pub mod Small
 pub mod Runs
 pub mod Replies
 pub mod ReadBack
+pub mod SampleReplies

@@ -35,6 +35,7 @@ pub use runs::nothing_leaks;
 pub use runs::wider_policies_sharpen_runs;
 pub use sample::sample_answers;
 pub use sample::sample_comparisons;
+pub use sample::sample_replies;
 pub use small::calls_keep_books_small;
 pub use valuations::lawful_valuations_are_faithful;
 pub use valuations::own_values_are_a_lawful_valuation;
