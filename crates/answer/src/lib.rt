@@ -1,5 +1,7 @@
 //! Answering a query over a view: low and high evaluation in a lent workspace, and the reply.
 
+#![tactic(auto)]
+
 mod bound;
 mod difference;
 mod evaluate;

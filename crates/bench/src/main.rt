@@ -1,6 +1,8 @@
 //! Queries over four tables of 256 rows, with a workspace for 512 rows a record. Prints how many certain
 //! and possible rows each has, and with the argument `time` how long each takes.
 
+#![tactic(auto)]
+
 mod ask;
 mod build;
 mod data;

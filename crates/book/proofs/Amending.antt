@@ -1,11 +1,11 @@
 -- The questions of an amendment, and the book after it.
-use Rattle.std.proofs.Common.{◌≡◌, ℕ, ◌+◌, ◌*◌, ◌<◌, ◌≤◌, Bool, ◌≢◌, ◌⊎◌, List, [], length, get_or, set, sym, refl, ap, ◌∙◌, subst, inl, inr, ⊎_elim, arith}
+use Rattle.std.proofs.Common.{◌≡◌, ℕ, ◌<◌, ◌≤◌, Bool, ◌≢◌, ◌⊎◌, List, [], length, get_or, set, ap, inl, inr, ⊎_elim, arith}
 use Rattle.std.proofs.lemmas.List.{get_or-set_same, get_or-set_other, length-set}
 use Rattle.std.proofs.lemmas.Bool.{cases_eq}
 use Rattle.std.proofs.lemmas.Bool.Decides.{nat_tests}
 use Rattle.semantics.specs.declared.kind.Column.{Column}
 use Rattle.semantics.specs.declared.refusal.Refusal.TheVariants.{NoRow, NoColumn, WrongKind}
-use Rattle.semantics.specs.Books.{Model, rows_of, with_rows, limit_of, column_at, may_amend}
+use Rattle.semantics.specs.Books.{rows_of, with_rows, limit_of, column_at, may_amend}
 use Rattle.semantics.specs.Kinds.{same_kind}
 use Rattle.semantics.specs.Outcomes.{done, refuse, question}
 use Rattle.semantics.specs.Values.{Value, kind_of}

@@ -1,5 +1,5 @@
 -- The columns that a structure stands for, table by table.
-use Rattle.std.proofs.Common.{◌≡◌, ℕ, zero, suc, ◌<◌, ◌≤◌, Bool, cond, List, [], ◌∷◌, ◌++◌, map, length, get_or, take, set, Some, None, sym, refl, ap, ◌∙◌, arith}
+use Rattle.std.proofs.Common.{◌≡◌, ℕ, zero, suc, ◌<◌, ◌≤◌, Bool, List, [], ◌∷◌, ◌++◌, length, get_or, set, Some, None, sym, ap, ◌∙◌, arith}
 use Rattle.std.proofs.lemmas.List.{get_or-map, get_or-take, length-take, length-take-le, map-set}
 use Rattle.std.proofs.lemmas.Bool.{lt-ltb}
 use Rattle.std.proofs.lemmas.Bool.Decides.{nat_tests}
@@ -9,7 +9,7 @@ use Rattle.semantics.specs.declared.refusal.Refusal.TheVariants.{TooManyColumns,
 use Rattle.semantics.specs.Books.{column_at}
 use Rattle.semantics.specs.Drafts.{admits, added, may_declare}
 use Rattle.semantics.specs.Kinds.{kind_from}
-use Rattle.semantics.specs.Outcomes.{done, refuse, question, found, and_then}
+use Rattle.semantics.specs.Outcomes.{done, refuse, question}
 use Rattle.book.specs.declared.columns.Columns.{Columns}
 use Rattle.book.specs.Columns.{listed, columns_in}
 

@@ -1,16 +1,15 @@
 -- The memory of a book, cell by cell.
-use Rattle.std.proofs.Common.{◌≡◌, ℕ, ◌+◌, ◌-◌, ◌*◌, ◌<◌, ◌≤◌, true, ◌≢◌, ◌⊎◌, List, [], ◌∷◌, map, length, get_or, take, drop, replicate, sym, refl, ap, ◌∙◌, subst, inl, inr, ⊎_elim, arith}
+use Rattle.std.proofs.Common.{◌≡◌, ℕ, ◌+◌, ◌-◌, ◌<◌, ◌≤◌, true, ◌≢◌, ◌⊎◌, List, [], map, length, get_or, take, drop, replicate, sym, ap, ◌∙◌, subst, inl, inr, ⊎_elim, arith}
 use lib.Seq.{paste}
 use Rattle.std.proofs.lemmas.List.Edits.{length-paste}
 use Rattle.std.proofs.lemmas.List.{get_or-replicate, get_or_past, length-replicate, length-take, length-drop, length-map, get_or-map, get_or-take, get_or-drop, places}
 use Rattle.std.proofs.lemmas.Bool.{cases_lt}
 use Rattle.semantics.specs.declared.kind.Column.{Column}
-use Rattle.semantics.specs.Books.{Model, rows_of, limit_of, lawful}
+use Rattle.semantics.specs.Books.{rows_of, limit_of, lawful}
 use Rattle.semantics.proofs.Lawful.{rows-within}
 use Rattle.cells.specs.declared.cell.Cell.{Cell}
 use Rattle.cells.specs.declared.cell.Cell.TheVariants.{Number}
 use Rattle.cells.specs.Cells.{cell_value}
-use Rattle.semantics.specs.Lists.{tabled}
 use Rattle.book.specs.Layout.{row_start, place, cell_at, width_of, row_in, table_in, model_in}
 use Rattle.book.proofs.Tabled.{length_tabled, slice_index_or_tabled, tabled-is, tabled-same}
 

@@ -1,5 +1,5 @@
 -- The questions of a store, and the book after it.
-use Rattle.std.proofs.Common.{◌≡◌, ℕ, ◌+◌, ◌-◌, ◌*◌, ◌<◌, ◌≤◌, Bool, true, false, cond, ◌&&◌, ltb, ◌≢◌, ◌⊎◌, List, [], ◌∷◌, ◌++◌, map, length, get_or, take, drop, set, sym, refl, ap, ◌∙◌, subst, inl, inr, ⊎_elim, arith}
+use Rattle.std.proofs.Common.{◌≡◌, ℕ, ◌+◌, ◌<◌, ◌≤◌, Bool, ltb, ◌⊎◌, List, [], ◌∷◌, ◌++◌, map, length, get_or, take, drop, set, sym, ap, ◌∙◌, inl, inr, ⊎_elim, arith}
 use lib.Seq.{paste}
 use Rattle.std.proofs.lemmas.List.{drop_more, drop_all, length-map, length-take, length-take-le, get_or-map, get_or-take, get_or-set_same, get_or-set_other}
 use Rattle.std.proofs.lemmas.Bool.Decides.{nat_tests}
@@ -8,14 +8,13 @@ use Rattle.semantics.specs.declared.kind.Column.{Column}
 use Rattle.semantics.specs.declared.refusal.Refusal.TheVariants.{WrongWidth, WrongKind, TableFull}
 use Rattle.semantics.specs.Books.{Model, columns_of, rows_of, with_rows, limit_of, fitting, may_store}
 use Rattle.semantics.specs.Kinds.{same_kind}
-use Rattle.semantics.specs.Outcomes.{Outcome, done, refuse, question, and_then}
+use Rattle.semantics.specs.Outcomes.{done, refuse, question, and_then}
 use Rattle.semantics.specs.Values.{Value, kind_of}
 use Rattle.cells.specs.declared.cell.Cell.{Cell}
 use Rattle.cells.specs.declared.cell.Cell.TheVariants.{Number}
 use Rattle.cells.specs.Cells.{cell_value}
 use Rattle.book.specs.declared.columns.Columns.{Columns}
 use Rattle.book.specs.Columns.{listed, columns_in}
-use Rattle.semantics.specs.Lists.{tabled}
 use Rattle.book.specs.Layout.{row_start, cell_at, width_of, row_in, table_in, model_in}
 use Rattle.book.proofs.Listing.{columns-at, width-at}
 use Rattle.book.proofs.Memory.{rows_at, count_at, table_same, put_in, put-out, put_length}

@@ -1,5 +1,7 @@
 //! Tariff books: columns are declared on a draft, which is opened to a book of rows in lent memory.
 
+#![tactic(auto)]
+
 mod amend;
 mod book;
 mod columns;

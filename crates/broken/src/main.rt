@@ -1,5 +1,7 @@
 //! Reads a table of queries, one a line as a name, a colon and hexadecimal digits, and says what each is refused with.
 
+#![tactic(auto)]
+
 use anyhow::anyhow;
 use book::{Book, Draft};
 use cells::Cell;

@@ -1,5 +1,7 @@
 //! Prefixes and cells: the values of a tariff book as they lie in memory.
 
+#![tactic(auto)]
+
 mod cell;
 mod digits;
 mod prefix;

@@ -1,5 +1,7 @@
 //! Comparing masked cells, and the truth of a condition on a row.
 
+#![tactic(auto)]
+
 mod comparing;
 mod condition;
 mod kleene;

@@ -1,5 +1,7 @@
 //! A query as a person reads it: its records as a tree in words, or the refusal.
 
+#![tactic(auto)]
+
 mod input;
 mod show;
 mod tree;

@@ -7,7 +7,7 @@ use Rattle.semantics.specs.Orderly.{Orderly}
 use Rattle.semantics.specs.Standing.{HasCell}
 use Rattle.semantics.specs.Valuations.{is_value_of, domain_kind, LawfulFor, valued, filled, own_values}
 use Rattle.semantics.specs.Values.{Value, number}
-use Rattle.semantics.specs.Views.{Masked, value, variable, Place, place_of, held, domain_of, linked_values, index_of, seen, drawn}
+use Rattle.semantics.specs.Views.{Masked, variable, Place, place_of, held, domain_of, linked_values, index_of, seen, drawn}
 use Rattle.semantics.proofs.Domains.{domain-kind}
 use Rattle.semantics.proofs.Held.{held-value, has-column, rows-held}
 use Rattle.semantics.proofs.Member.{tabled-agree, map_tabled}

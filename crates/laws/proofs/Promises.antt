@@ -1,5 +1,5 @@
 -- The laws of runs.
-use Rattle.std.proofs.Common.{◌≡◌, ℕ, Bool, true, leb, List, [], ◌∷◌, map, length, Some, None, Option, sym, refl, ap, ◌∙◌, subst, arith}
+use Rattle.std.proofs.Common.{◌≡◌, ℕ, true, leb, List, [], ◌∷◌, map, length, Some, None, Option, sym, refl, ap, ◌∙◌, subst, arith}
 use Rattle.std.proofs.lemmas.Bool.{and_parts}
 use Rattle.semantics.specs.declared.refusal.Refusal.TheVariants.{TooManyRows, ReplyTooLong}
 use Rattle.semantics.specs.Answers.{low, overflow}
@@ -11,14 +11,13 @@ use Rattle.semantics.specs.Outcomes.{Outcome, done, refused, question, and_then}
 use Rattle.semantics.specs.Policies.{Meaning}
 use Rattle.semantics.specs.Queries.{Tree, nodes}
 use Rattle.semantics.specs.Reading.{questions}
-use Rattle.semantics.specs.Runs.{Call, storing, striking, amending, asking, carried_out, left, after, reached, handed, outcome, run, without_secrets, DifferInSecrets, proper_call}
+use Rattle.semantics.specs.Runs.{Call, storing, striking, amending, asking, carried_out, left, after, reached, handed, outcome, run, without_secrets, proper_call}
 use Rattle.semantics.specs.Valuations.{valued, own_values}
-use Rattle.semantics.specs.Values.{Value}
 use Rattle.semantics.specs.Views.{Masked, value, marks, view}
 use Rattle.semantics.proofs.Member.{map_map}
 use Rattle.semantics.proofs.Orderly.{open_orderly, store_orderly, strike_orderly, amend_orderly}
 use Rattle.semantics.proofs.Outcomes.{refuse_not, then-done, question-done}
-use Rattle.laws.specs.Runs.{CannotTell, SameOutcomes, NothingLeaks, AnsweredTruly, CertainRowsStand, WiderSharpens, LawsHold}
+use Rattle.laws.specs.Runs.{CannotTell, SameOutcomes, NothingLeaks, CertainRowsStand, WiderSharpens, LawsHold}
 use Rattle.laws.proofs.Bare.{bare, on_done, bare-call, bare-after}
 use Rattle.laws.proofs.Bounded.{answers-bound, wider_sharpens_lem}
 use Rattle.laws.proofs.EqualViews.{indistinguishable_equal}

@@ -1,5 +1,5 @@
 -- Bytes of replies and refusals, worked by hand.
-use Rattle.std.specs.Prelude.{◌≡◌, ℕ, List, [], ◌∷◌}
+use Rattle.std.specs.Prelude.{◌≡◌, [], ◌∷◌}
 use Rattle.semantics.specs.Asks.{capacity}
 use Rattle.semantics.specs.Replies.{cell_bytes, reply_bytes, refusal_bytes}
 use Rattle.semantics.specs.Values.{number, prefix}

@@ -1,7 +1,7 @@
 -- Queries over the small book of tariffs and the bytes of their replies, worked by hand.
 use Rattle.std.specs.Prelude.{◌≡◌, ℕ, List, [], ◌∷◌, length}
 use Rattle.semantics.specs.Asks.{answered}
-use Rattle.semantics.specs.Outcomes.{Outcome, refused, done}
+use Rattle.semantics.specs.Outcomes.{refused, done}
 use Rattle.semantics.specs.Queries.{Tree, table, project}
 use Rattle.semantics.specs.Records.{encode}
 use Rattle.laws.specs.Sample.{tariffs, seen_by7, longest}

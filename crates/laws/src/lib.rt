@@ -1,5 +1,7 @@
 //! The laws of the definitions in `semantics`, each on the contract of a function, so that the check asks for its proof.
 
+#![tactic(auto)]
+
 mod answers;
 mod compatible;
 mod indistinguishable;

@@ -1,5 +1,7 @@
 //! Policies: who may see how much of which cell.
 
+#![tactic(auto)]
+
 mod combine;
 mod consent;
 mod consents;

@@ -1,5 +1,7 @@
 //! Reading a query: its records in place, the questions put to it, and the plan that passes them.
 
+#![tactic(auto)]
+
 mod columns;
 mod condition;
 mod first;

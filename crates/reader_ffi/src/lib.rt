@@ -1,6 +1,8 @@
 //! The reader of queries for programs in other languages, over fixed columns: table 0 has a prefix in
 //! domain 1 and two numbers, table 1 has two numbers.
 
+#![tactic(auto)]
+
 use book::Draft;
 use cells::Cell;
 use query::{Plan, check};

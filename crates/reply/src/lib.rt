@@ -1,5 +1,7 @@
 //! The bytes of a reply and of a refusal.
 
+#![tactic(auto)]
+
 mod refusal;
 mod reply;
 mod size;

@@ -1,5 +1,7 @@
 //! Rows of a view: whether two are identical, and whether two may be the same row.
 
+#![tactic(auto)]
+
 mod agree;
 mod differ;
 mod groups;

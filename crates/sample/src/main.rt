@@ -1,5 +1,7 @@
 //! A tariff book at work: columns are declared, rows stored, amended and struck, and bad calls refused.
 
+#![tactic(auto)]
+
 mod bad;
 mod show;
 mod views;

@@ -1,15 +1,15 @@
 -- Every call that is not refused leaves a lawful book lawful.
-use Rattle.std.proofs.Common.{◌≡◌, ℕ, ◌+◌, ◌<◌, ◌≤◌, Bool, true, false, cond, ◌&&◌, ltb, leb, List, [], ◌∷◌, ◌++◌, length, get_or, set, sym, refl, ap, ◌∙◌, subst, arith}
+use Rattle.std.proofs.Common.{◌≡◌, ℕ, ◌+◌, ◌<◌, ◌≤◌, true, leb, List, [], ◌∷◌, ◌++◌, length, get_or, set, refl, arith}
 use Rattle.std.specs.List.{remove}
 use Rattle.std.proofs.lemmas.List.Edits.{length-remove}
 use Rattle.std.proofs.lemmas.List.{length_push, length-set}
-use Rattle.std.proofs.lemmas.Bool.{and_parts, and_from, le-leb, leb-true, cases_lt}
+use Rattle.std.proofs.lemmas.Bool.{and_parts, and_from, le-leb, leb-true}
 use Rattle.std.proofs.lemmas.Bool.Decides.{nat_tests}
 use Rattle.semantics.specs.declared.kind.Column.{Column}
-use Rattle.semantics.specs.Books.{Model, columns_of, rows_of, column_at, opened, limit_of, fitting, may_store, stored, may_strike, struck, may_amend, amended, fits, sound, lawful}
+use Rattle.semantics.specs.Books.{Model, columns_of, rows_of, column_at, opened, limit_of, fitting, may_store, may_strike, may_amend, fits, sound, lawful}
 use Rattle.semantics.specs.Kinds.{same_kind}
 use Rattle.semantics.specs.Lists.{every, pairwise}
-use Rattle.semantics.specs.Outcomes.{Outcome, done, refused, and_then}
+use Rattle.semantics.specs.Outcomes.{done}
 use Rattle.semantics.specs.Values.{Value, kind_of}
 use Rattle.semantics.proofs.Every.{every-at, every_append, every_set, every_removed, pairwise-at, pairwise-set}
 

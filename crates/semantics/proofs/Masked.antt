@@ -1,5 +1,5 @@
 -- The test whether two masked cells are identical says just that they are equal.
-use Rattle.std.proofs.Common.{◌≡◌, ℕ, true, false, eqb, refl, ap, subst, arith}
+use Rattle.std.proofs.Common.{◌≡◌, ℕ, true, eqb, refl, ap, subst, arith}
 use Rattle.std.proofs.lemmas.Bool.{and_parts, eqb-true, eq-eqb, false≢true}
 use Rattle.semantics.specs.Views.{Masked, value, variable, pseudonym}
 use Rattle.semantics.specs.Wider.{same_masked}

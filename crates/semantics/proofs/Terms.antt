@@ -1,20 +1,19 @@
 -- Conditions are read from their bytes, and only from those.
-use Rattle.std.proofs.Common.{◌≡◌, ℕ, zero, suc, ◌+◌, ◌-◌, ◌<◌, ◌≤◌, Bool, true, false, cond, ◌&&◌, eqb, ltb, leb, ◌⊎◌, List, [], ◌∷◌, ◌++◌, length, Some, None, Option, sym, refl, ap, ◌∙◌, subst, inl, inr, ⊎_elim, arith}
+use Rattle.std.proofs.Common.{◌≡◌, ℕ, ◌+◌, ◌-◌, ◌≤◌, Bool, true, cond, ◌&&◌, eqb, leb, List, [], ◌∷◌, ◌++◌, length, Some, sym, refl, ap, ◌∙◌, subst, ⊎_elim, arith}
 use Rattle.std.specs.List.{flat_map}
-use Rattle.std.proofs.lemmas.List.{append_assoc, append-nil, length-append}
+use Rattle.std.proofs.lemmas.List.{append-nil, length-append}
 use Rattle.std.proofs.lemmas.Bool.{and_parts, and_from, eqb-true, ltb-true, leb-true, le-leb}
 use Rattle.std.proofs.lemmas.Bool.Decides.{nat_tests}
 use Rattle.semantics.specs.declared.operator.Operator.{Operator}
 use Rattle.semantics.specs.declared.operator.Operator.TheVariants.{Equal, Unequal, Less, AtMost, Covers, Shorter}
 use Rattle.semantics.specs.declared.refusal.Refusal.{Refusal}
-use Rattle.semantics.specs.Bytes.{is_byte, record_bytes, four_bytes, from_four}
+use Rattle.semantics.specs.Bytes.{is_byte, from_four}
 use Rattle.semantics.specs.Conditions.{Comparison, by_column, by_number, by_prefix, Condition, compared, conjunction, disjunction, negation, Term, comparing, conjoining, disjoining, negating, terms, comparison_number, comparison_body, term_number, term_body, term_bytes, condition_bytes, formed_comparison, formed_term, formed_condition}
 use Rattle.semantics.specs.Lists.{every}
 use Rattle.semantics.specs.Operators.{operator_number, operator_from}
-use Rattle.semantics.specs.Outcomes.{Outcome, done, refused, refuse, question, found, and_then}
+use Rattle.semantics.specs.Outcomes.{Outcome, done, refuse, found, and_then}
 use Rattle.semantics.specs.Reading.{empty_form, column_side, number_side, prefix_side, comparison_form, term_form, combined, term_step, term_faults, condition_form}
 use Rattle.semantics.specs.Values.{is_digit}
-use Rattle.semantics.specs.Walks.{walk}
 use Rattle.semantics.proofs.Bytes.{four-back, four-again}
 use Rattle.semantics.proofs.Every.{every_append}
 use Rattle.semantics.proofs.Outcomes.{refuse_not, then-done, found-done, question-done, cond_ways}

@@ -1,16 +1,16 @@
 -- Exactly the well-formed queries pass the questions, each as the tree whose bytes it is.
-use Rattle.std.proofs.Common.{◌≡◌, ℕ, zero, suc, ◌+◌, ◌-◌, ◌<◌, ◌≤◌, Bool, true, false, cond, ◌&&◌, eqb, ltb, leb, ◌⊎◌, List, [], ◌∷◌, ◌++◌, length, sym, refl, ap, ◌∙◌, subst, inl, inr, ⊎_elim, arith}
+use Rattle.std.proofs.Common.{◌≡◌, ℕ, ◌+◌, ◌-◌, ◌≤◌, Bool, true, cond, ◌&&◌, eqb, leb, List, [], ◌∷◌, ◌++◌, length, sym, refl, ap, ◌∙◌, subst, ⊎_elim, arith}
 use Rattle.std.specs.List.{flat_map}
-use Rattle.std.proofs.lemmas.List.{append_assoc, append-nil, length-append}
+use Rattle.std.proofs.lemmas.List.{append-nil, length-append}
 use Rattle.std.proofs.lemmas.Bool.{and_parts, and_from, eqb-true, leb-true, le-leb}
 use Rattle.std.proofs.lemmas.Bool.Decides.{nat_tests}
 use Rattle.semantics.specs.declared.kind.Column.{Column}
 use Rattle.semantics.specs.declared.refusal.Refusal.{Refusal}
 use Rattle.semantics.specs.declared.refusal.Refusal.TheVariants.{QueryLength, UnknownRecord, WrongForm, StackShort, NoSuchName, Unfit, ProductTooWide}
-use Rattle.semantics.specs.Bytes.{is_byte, record_bytes}
+use Rattle.semantics.specs.Bytes.{is_byte}
 use Rattle.semantics.specs.Conditions.{Condition, condition_bytes, formed_condition}
 use Rattle.semantics.specs.Lists.{every}
-use Rattle.semantics.specs.Outcomes.{Outcome, done, refused, refuse, question, found, and_then}
+use Rattle.semantics.specs.Outcomes.{Outcome, done, refuse, question, and_then}
 use Rattle.semantics.specs.Queries.{Tree, table, select, project, product, union, difference, nodes, formed, named, fitted, narrow, proper, well_formed}
 use Rattle.semantics.specs.Records.{Record, table_record, select_record, project_record, product_record, union_record, difference_record, record_of, record_number, record_body, own_bytes, encode}
 use Rattle.semantics.specs.Reading.{empty_form, condition_form, table_form, record_form, Grown, grown, record_step, query_faults, questions, Query, ReadsExactly, ReadsOneWay}

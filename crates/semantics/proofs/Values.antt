@@ -1,5 +1,5 @@
 -- The test whether two values are the same says just that they are equal.
-use Rattle.std.proofs.Common.{◌≡◌, ℕ, true, false, eqb, List, [], ◌∷◌, refl, ap, subst, ap₂}
+use Rattle.std.proofs.Common.{◌≡◌, ℕ, true, eqb, List, [], ◌∷◌, refl, ap, subst, ap₂}
 use Rattle.std.proofs.lemmas.Bool.{and_parts, and_from, eqb-true, eq-eqb, false≢true}
 use Rattle.semantics.specs.Lists.{pairwise}
 use Rattle.semantics.specs.Values.{Value, number, prefix, same_value}

@@ -1,11 +1,11 @@
 -- A walk over records written parts first leaves exactly the things whose bytes they are.
-use Rattle.std.proofs.Common.{◌≡◌, ℕ, zero, suc, ◌+◌, ◌<◌, ◌≤◌, Bool, true, false, cond, ◌&&◌, List, [], ◌∷◌, ◌++◌, length, Some, None, Option, sym, refl, ap, ◌∙◌, subst, arith}
+use Rattle.std.proofs.Common.{◌≡◌, ℕ, zero, suc, ◌+◌, ◌≤◌, Bool, true, List, [], ◌∷◌, ◌++◌, sym, refl, ap, ◌∙◌, subst, arith}
 use Rattle.std.proofs.lemmas.List.{append_assoc, append-nil}
 use Rattle.std.proofs.lemmas.Bool.{and_parts, and_from}
 use Rattle.semantics.specs.declared.refusal.Refusal.{Refusal}
 use Rattle.semantics.specs.Bytes.{is_byte, record_bytes, First, first_record}
 use Rattle.semantics.specs.Lists.{every}
-use Rattle.semantics.specs.Outcomes.{Outcome, done, refused, refuse, found, and_then}
+use Rattle.semantics.specs.Outcomes.{Outcome, done, found, and_then}
 use Rattle.semantics.specs.Walks.{Faults, single, walk}
 use Rattle.semantics.proofs.Bytes.{first_of, first_back, FirstOf}
 use Rattle.semantics.proofs.Outcomes.{refuse_not, then-done, found-done}

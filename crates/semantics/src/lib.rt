@@ -1,5 +1,7 @@
 //! The small closed types that the code and the definitions in `specs/` share.
 
+#![tactic(auto)]
+
 mod kind;
 mod mark;
 mod operator;

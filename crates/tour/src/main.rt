@@ -1,5 +1,7 @@
 //! Queries over three tariffs, and what is certain and what is possible of their answers.
 
+#![tactic(auto)]
+
 mod answers;
 mod build;
 mod filters;

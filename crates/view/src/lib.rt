@@ -1,5 +1,7 @@
 //! Views: what a broker sees of a book under a policy.
 
+#![tactic(auto)]
+
 mod draw;
 mod find;
 mod mask;

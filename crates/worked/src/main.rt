@@ -2,6 +2,8 @@
 //! colon, and then a book, a broker, the number of workspace cells, the length of the reply buffer
 //! and the query in hexadecimal digits. `tests/evaluate.py` says what is to be written.
 
+#![tactic(auto)]
+
 mod ask;
 mod digits;
 mod marks;

@@ -1,5 +1,7 @@
 //! Rows of masked cells in a lent workspace.
 
+#![tactic(auto)]
+
 mod block;
 mod memory;
 mod read;

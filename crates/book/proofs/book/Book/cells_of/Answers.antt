@@ -1,4 +1,4 @@
-use Rattle.std.proofs.Common.{◌≡◌, map, get_or, take, drop, sym, ap, ◌∙◌, arith}
+use Rattle.std.proofs.Common.{map, get_or, take, drop, sym, ap, ◌∙◌, arith}
 use Rattle.cells.specs.Cells.{cell_value}
 use Rattle.book.specs.Books.{memory}
 use Rattle.book.specs.Columns.{columns_in}

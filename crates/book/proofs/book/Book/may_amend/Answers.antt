@@ -1,4 +1,4 @@
-use Rattle.std.proofs.Common.{◌≡◌, true, false, sym, ap, ◌∙◌, arith}
+use Rattle.std.proofs.Common.{true, false, sym, ap, ◌∙◌, arith}
 use Rattle.semantics.specs.Kinds.{same_kind}
 use Rattle.semantics.specs.Values.{kind_of}
 use Rattle.semantics.proofs.Same.{same_ne}

@@ -1,4 +1,4 @@
-use Rattle.std.proofs.Common.{◌≡◌, sym, ap}
+use Rattle.std.proofs.Common.{sym, ap}
 use Rattle.semantics.specs.Outcomes.{done}
 use Rattle.book.proofs.Next.{strike_fits, strike_next}
 use Rattle.book.proofs.book.Book.remove.Goals as goal
@@ -6,11 +6,11 @@ use Rattle.book.proofs.book.Book.remove.Goals as goal
 pub remove-requires : goal.remove-requires
 remove-requires c = let k = strike_fits c.args.self.now c.args.table c.args.row c.requires in (k.0, (k.1, k.2))
 
-pub invariant-of-self : goal.invariant-of-self
-invariant-of-self c =
+pub invariant_of-self : goal.invariant_of-self
+invariant_of-self c =
     let s = c.args.self.now in
     let n = strike_next s c.args.table c.args.row c.requires c.remove.new.self.counts c.remove.new.self.cells.now c.remove.ensures.counts c.remove.ensures.cells in
-    (s.four, (n.counted, (s.domains, (n.law, (n.clean, tt)))))
+    record { four = s.four; counted = n.counted; domains = s.domains; fitting = n.law; clean = n.clean }
 
 pub returns : goal.returns
 returns c =

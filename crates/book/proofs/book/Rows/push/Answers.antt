@@ -8,4 +8,4 @@ returns c =
     let s = c.args.self.now in
     let row = c.args.row.now in
     let at = row_start c.args.table (get_or s.counts c.args.table 0) in
-    record { counts = refl; cells = put_mid-paste at (at + length row - at) s.cells.now _ row (length row) c.copy-from-slice.ensures.after (omega arith) refl }
+    record { counts = refl; cells = put_mid-paste at (at + length row - at) s.cells.now _ row (length row) c.copy_from_slice.ensures.after (omega arith) refl }

@@ -1,5 +1,4 @@
-use Rattle.std.proofs.Common.{◌≡◌, ◌+◌, ◌-◌, ◌*◌, length, get_or, set, replicate, sym, refl, ap, ◌∙◌, subst, arith}
-use lib.Seq.{paste}
+use Rattle.std.proofs.Common.{◌≡◌, ◌+◌, ◌-◌, get_or, set, replicate, sym, refl, ap, ◌∙◌, subst, arith}
 use Rattle.std.proofs.lemmas.Slice.{put_mid-paste}
 use Rattle.cells.specs.declared.cell.Cell.TheVariants.{Number}
 use Rattle.book.specs.Layout.{row_start, Removed}
@@ -7,16 +6,16 @@ use Rattle.book.proofs.Memory.{part-eight}
 use Rattle.book.proofs.Striking.{Moved, moved_more, removed_is}
 use Rattle.book.proofs.book.Rows.remove.Goals as goal
 
-pub copy-within-requires : goal.copy-within-requires
-copy-within-requires c =
+pub copy_within-requires : goal.copy_within-requires
+copy_within-requires c =
     let z = c.loop-r.invariant.1.size in
-    record { start-le-end = omega arith; in_bounds = omega arith; dest-in-bounds = omega arith; not-exhausted = tt }
+    record { start_le_end = omega arith; in_bounds = omega arith; dest_in_bounds = omega arith; not_exhausted = tt }
 
 pub loop-r-preserved : goal.loop-r-preserved
 loop-r-preserved c =
-    let p = c.copy-within.ensures.by_index in (
+    let p = c.copy_within.ensures.by_index in (
       c.loop-r.invariant.0,
-      moved_more c.args.table c.args.row c.loop-r.r c.args.self.now.cells.now c.loop-r.self.cells.now c.copy-within.new.self (omega arith) c.loop-r.auto.r c.copy-within.ensures.len
+      moved_more c.args.table c.args.row c.loop-r.r c.args.self.now.cells.now c.loop-r.self.cells.now c.copy_within.new.self (omega arith) c.loop-r.auto.r c.copy_within.ensures.len
           (λ k d a b. p.0 k d a (omega arith)) (λ k d a. p.1 k d a) (λ k d a. p.2 k d (omega arith)) c.loop-r.invariant.1,
     )
 

@@ -1,4 +1,4 @@
-use Rattle.std.proofs.Common.{◌≡◌, sym, ap, ◌∙◌, arith}
+use Rattle.std.proofs.Common.{sym, ap, ◌∙◌, arith}
 use Rattle.semantics.specs.Drafts.{suits}
 use Rattle.semantics.specs.Lists.{every}
 use Rattle.semantics.proofs.Every.{every-on, every_not, every-end}

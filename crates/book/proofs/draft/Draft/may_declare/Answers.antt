@@ -1,4 +1,4 @@
-use Rattle.std.proofs.Common.{◌≡◌, true, false, sym, refl, ◌∙◌, arith}
+use Rattle.std.proofs.Common.{true, false, sym, arith}
 use Rattle.semantics.proofs.Agreed.{declare_known}
 use Rattle.book.specs.Columns.{columns_in}
 use Rattle.book.proofs.Listing.{width-at, declare_full, declare_unknown, declare_known_kind}
@@ -9,10 +9,10 @@ returns-then-self-table-ge8 c =
     let w = width-at c.args.self.now.tables c.args.table c.index-self-table.result (omega arith) in
     record { answers = declare_full (columns_in c.args.self.now.tables) c.args.table c.args.kind c.args.domain (omega arith) (omega arith); takes = tt }
 
-pub returns-in-default : goal.returns-in-default
-returns-in-default c =
+pub returns-in_default : goal.returns-in_default
+returns-in_default c =
     let w = width-at c.args.self.now.tables c.args.table c.index-self-table.result (omega arith) in
-    record { answers = declare_unknown (columns_in c.args.self.now.tables) c.args.table c.args.kind c.args.domain (omega arith) (omega arith) (sym c.in-default.ensures); takes = tt }
+    record { answers = declare_unknown (columns_in c.args.self.now.tables) c.args.table c.args.kind c.args.domain (omega arith) (omega arith) (sym c.in_default.ensures); takes = tt }
 
 pub returns-then-not-admits : goal.returns-then-not-admits
 returns-then-not-admits c =
