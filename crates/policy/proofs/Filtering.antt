@@ -10,7 +10,7 @@ use Rattle.semantics.specs.declared.rule.Sign.{Sign}
 use Rattle.semantics.specs.declared.rule.Sign.TheVariants.{Allow, Prohibit}
 use Rattle.semantics.specs.Drafts.{is_table}
 use Rattle.semantics.specs.Outcomes.{Outcome, done, question}
-use Rattle.semantics.specs.Policies.{same_sign, applies, counts, some_rule, filters_mean, test_column, may_rule, ruled, ruled_mean}
+use Rattle.semantics.specs.Policies.{same_sign, applies, counts, some_rule, filters_mean, test_column, may_rule, ruled_mean}
 use Rattle.semantics.specs.Values.{Value}
 use Rattle.semantics.proofs.Some.{some-push}
 

@@ -1,5 +1,5 @@
 -- The entries of a register: finding one, and setting one.
-use Rattle.std.proofs.Common.{◌≡◌, ℕ, zero, suc, ◌+◌, ◌<◌, ◌≤◌, Bool, true, false, cond, not, ◌&&◌, ◌||◌, eqb, List, [], ◌∷◌, ◌++◌, length, get_or, take, drop, set, Some, None, Option, sym, refl, ap, ◌∙◌, ⊎_elim, arith}
+use Rattle.std.proofs.Common.{◌≡◌, ℕ, suc, ◌+◌, ◌<◌, ◌≤◌, Bool, true, false, cond, not, ◌&&◌, ◌||◌, eqb, List, [], ◌∷◌, ◌++◌, length, get_or, take, drop, set, Some, None, Option, sym, refl, ap, ◌∙◌, ⊎_elim, arith}
 use lib.Seq.{take-set-lt}
 use Rattle.std.proofs.lemmas.List.{at_drop_more, at_drop_all, get_or-take, length-take-le, take_more_set}
 use Rattle.std.proofs.lemmas.Bool.{lt-ltb, le-ltb, ne_eqb, eqb-true, eqb-false, and_parts, and_from, cases_Bool, cond-true, cond-false, cond_both}
@@ -10,7 +10,6 @@ use Rattle.semantics.specs.declared.refusal.Refusal.TheVariants.{RegisterFull}
 use Rattle.semantics.specs.declared.rule.Consent.{Consent}
 use Rattle.semantics.specs.Outcomes.{done, refuse}
 use Rattle.semantics.specs.Policies.{number_at, is_number, consent_of, consent_mark, key_mark, consents_mean, replaced, is_known, keys_apart, consented, consented_mean, SameMeaning}
-use Rattle.semantics.specs.Values.{Value}
 use Rattle.policy.specs.Consents.{place_from}
 
 -- a loop over the entries: what is left decides

@@ -12,18 +12,14 @@ returns-then-self-ge64 c =
       kept = refl;
     }
 
-pub invariant-of-self : goal.invariant-of-self
-invariant-of-self c =
-    let s = c.args.self.now in (
-      omega arith,
-      (
-        length-set s.list s.count c.args.consent ∙ s.full,
-        (
-          adds-apart s.list s.count (omega arith) c.args.consent c.requires (omega arith) s.apart,
-          tt,
-        ),
-      ),
-    )
+pub invariant_of-self : goal.invariant_of-self
+invariant_of-self c =
+    let s = c.args.self.now in
+    record {
+      short = omega arith;
+      full = length-set s.list s.count c.args.consent ∙ s.full;
+      apart = adds-apart s.list s.count (omega arith) c.args.consent c.requires (omega arith) s.apart;
+    }
 
 pub returns : goal.returns
 returns c =

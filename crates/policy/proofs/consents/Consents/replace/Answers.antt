@@ -3,8 +3,8 @@ use Rattle.std.proofs.lemmas.List.{length-set}
 use Rattle.policy.proofs.Register.{place-within, replaces, replaces-apart, replaces-means}
 use Rattle.policy.proofs.consents.Consents.replace.Goals as goal
 
-pub offset-bounds-self-place : goal.offset-bounds-self-place
-offset-bounds-self-place c =
+pub offset_bounds-self-place : goal.offset_bounds-self-place
+offset_bounds-self-place c =
     let s = c.args.self.now in
     let h = place-within s.list s.count (omega arith) c.args.consent.key c.args.place c.requires in
     omega arith
@@ -15,18 +15,14 @@ bounds-self-place c =
     let h = place-within s.list s.count (omega arith) c.args.consent.key c.args.place c.requires in
     omega arith
 
-pub invariant-of-self : goal.invariant-of-self
-invariant-of-self c =
-    let s = c.args.self.now in (
-      s.short,
-      (
-        length-set s.list c.args.place c.args.consent ∙ s.full,
-        (
-          replaces-apart s.list s.count (omega arith) c.args.consent c.args.place c.requires s.apart,
-          tt,
-        ),
-      ),
-    )
+pub invariant_of-self : goal.invariant_of-self
+invariant_of-self c =
+    let s = c.args.self.now in
+    record {
+      short = s.short;
+      full = length-set s.list c.args.place c.args.consent ∙ s.full;
+      apart = replaces-apart s.list s.count (omega arith) c.args.consent c.args.place c.requires s.apart;
+    }
 
 pub returns : goal.returns
 returns c =

@@ -1,4 +1,4 @@
-use Rattle.std.proofs.Common.{◌≡◌, sym, ap, ◌∙◌, arith}
+use Rattle.std.proofs.Common.{sym, ap, ◌∙◌, arith}
 use Rattle.std.proofs.lemmas.List.{take_more_set, length-take-le, length-set}
 use Rattle.semantics.specs.Outcomes.{done}
 use Rattle.semantics.specs.Policies.{filters_mean}
@@ -13,12 +13,12 @@ bounds-self-self c =
     let room = rule_room (rules_of f) c.args.rule c.requires in
     omega arith
 
-pub invariant-of-self : goal.invariant-of-self
-invariant-of-self c =
+pub invariant_of-self : goal.invariant_of-self
+invariant_of-self c =
     let f = c.args.self.now in
     let count = length-take-le f.count f.list (omega arith) in
     let room = rule_room (rules_of f) c.args.rule c.requires in
-    (omega arith, (length-set f.list f.count c.args.rule ∙ f.sixteen, tt))
+    record { short = omega arith; sixteen = length-set f.list f.count c.args.rule ∙ f.sixteen }
 
 pub returns : goal.returns
 returns c =
