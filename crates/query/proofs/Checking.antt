@@ -1,5 +1,5 @@
 -- The loop of the check over the records of a query.
-use Rattle.std.proofs.Common.{◌≡◌, ℕ, zero, suc, ◌+◌, ◌-◌, ◌<◌, ◌≤◌, Bool, true, false, cond, ◌&&◌, ltb, leb, ◌⊎◌, List, [], ◌∷◌, ◌++◌, map, length, get_or, take, drop, Some, None, Option, Result, sym, refl, ap, ◌∙◌, subst, inl, inr, ⊎_elim, arith, Bor}
+use Rattle.std.proofs.Common.{◌≡◌, ℕ, suc, ◌+◌, ◌-◌, ◌<◌, ◌≤◌, Bool, true, false, ◌&&◌, ltb, leb, ◌⊎◌, List, [], ◌∷◌, map, length, get_or, take, drop, Some, None, Option, Result, sym, refl, ap, ◌∙◌, subst, inl, inr, ⊎_elim, arith, Bor}
 use Rattle.std.proofs.lemmas.List.{drop-drop, length-drop, drop_all, get_or-map, take_rest}
 use Rattle.std.proofs.lemmas.Bool.{and_from, and_left, and_right, le-leb, lt-leb, lt-ltb, le-ltb, leb-true}
 use Rattle.semantics.specs.declared.kind.Column.{Column}
@@ -16,7 +16,7 @@ use Rattle.semantics.proofs.Outcomes.{then-done, found-done, question-done}
 use Rattle.query.specs.declared.plan.Plan.{Plan}
 use Rattle.query.specs.declared.record.Record.{Record}
 use Rattle.query.specs.declared.record.Record.TheVariants.{Table, Select, Project, Product, Union, Difference}
-use Rattle.query.specs.Plans.{Plans, laid, asked, lone}
+use Rattle.query.specs.Plans.{laid, asked, lone}
 use Rattle.query.specs.Saying.{First, first_said, Says, Short}
 use Rattle.query.specs.declared.step.Step.{Step}
 use Rattle.query.specs.declared.plan.Position.{Position}

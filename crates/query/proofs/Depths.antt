@@ -1,8 +1,7 @@
 -- How many conditions a term leaves on the stack.
-use Rattle.std.proofs.Common.{◌≡◌, ℕ, ◌+◌, ◌-◌, ◌<◌, ◌≤◌, ◌⊎◌, List, [], ◌∷◌, length, Some, None, sym, refl, ap, ◌∙◌, subst, inl, inr, arith}
+use Rattle.std.proofs.Common.{◌≡◌, ℕ, ◌+◌, ◌-◌, ◌≤◌, ◌⊎◌, List, [], ◌∷◌, length, Some, refl, inl, inr, arith}
 use Rattle.semantics.specs.declared.refusal.Refusal.{Refusal}
 use Rattle.semantics.specs.Conditions.{Condition, compared, conjunction, disjunction, negation, by_column, by_number, by_prefix}
-use Rattle.semantics.specs.Outcomes.{Outcome, done, refuse}
 use Rattle.semantics.specs.Reading.{combined}
 use Rattle.query.specs.declared.term.Term.{Term}
 use Rattle.query.specs.declared.term.Term.TheVariants.{ByColumn, ByNumber, ByPrefix, And, Or, Not}

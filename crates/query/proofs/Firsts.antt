@@ -1,8 +1,8 @@
 -- The first record as it is cut out of a slice.
-use Rattle.std.proofs.Common.{◌≡◌, ℕ, ◌+◌, ◌-◌, ◌*◌, ◌<◌, ◌≤◌, Bool, true, false, cond, leb, List, [], ◌∷◌, ◌++◌, length, get_or, take, drop, Some, None, Option, sym, refl, ap, ◌∙◌, arith}
-use Rattle.std.proofs.lemmas.List.{take_rest, take_all}
+use Rattle.std.proofs.Common.{◌≡◌, ℕ, ◌-◌, ◌<◌, ◌≤◌, true, false, leb, List, [], ◌∷◌, length, get_or, take, drop, Some, None, refl, ◌∙◌, arith}
+use Rattle.std.proofs.lemmas.List.{take_rest}
 use Rattle.std.proofs.lemmas.Bool.{le-leb, lt-leb}
-use Rattle.semantics.specs.Bytes.{from_two, First, cut, first_record}
+use Rattle.semantics.specs.Bytes.{from_two, cut, first_record}
 
 pub first-whole : (bytes : List ℕ) → 4 ≤ length bytes → first_record bytes ≡ cut (from_two (get_or bytes 0 0) (get_or bytes 1 0)) (from_two (get_or bytes 2 0) (get_or bytes 3 0)) (drop 4 bytes)
 first-whole [] h = absurd (omega arith)

@@ -1,9 +1,9 @@
 -- The forms of comparisons, by the length of the body.
-use Rattle.std.proofs.Common.{◌≡◌, ℕ, ◌+◌, ◌-◌, ◌*◌, ◌<◌, ◌≤◌, Bool, true, false, cond, ◌&&◌, leb, List, [], ◌∷◌, ◌++◌, length, get_or, take, drop, Some, None, Option, sym, refl, ap, ◌∙◌, arith}
+use Rattle.std.proofs.Common.{◌≡◌, ℕ, ◌-◌, ◌<◌, ◌≤◌, true, false, ◌&&◌, leb, List, [], ◌∷◌, length, get_or, take, drop, Some, None, Option, sym, refl, ◌∙◌, arith}
 use Rattle.semantics.specs.declared.operator.Operator.{Operator}
 use Rattle.semantics.specs.declared.refusal.Refusal.{Refusal}
 use Rattle.semantics.specs.Bytes.{from_four}
-use Rattle.semantics.specs.Conditions.{Comparison, by_column, by_number, by_prefix, Term, comparing}
+use Rattle.semantics.specs.Conditions.{Comparison, by_column, by_number, by_prefix, comparing}
 use Rattle.semantics.specs.Operators.{operator_from}
 use Rattle.semantics.specs.Outcomes.{Outcome, done, refuse, found, and_then}
 use Rattle.semantics.specs.Lists.{every}

@@ -1,15 +1,14 @@
 -- A loop over the terms of a condition, that asks each of them the same.
-use Rattle.std.proofs.Common.{◌≡◌, ℕ, zero, suc, ◌+◌, ◌<◌, ◌≤◌, Bool, true, false, ◌&&◌, leb, ◌⊎◌, List, [], ◌∷◌, ◌++◌, length, take, drop, Some, None, Option, sym, refl, ap, ◌∙◌, subst, inl, inr, ⊎_elim, arith}
+use Rattle.std.proofs.Common.{◌≡◌, ℕ, zero, suc, ◌+◌, ◌<◌, ◌≤◌, Bool, true, false, ◌&&◌, leb, List, [], ◌∷◌, ◌++◌, length, take, drop, Some, None, sym, refl, ap, ◌∙◌, subst, ⊎_elim, arith}
 use Rattle.std.proofs.lemmas.List.{append_assoc, append-nil, length-drop}
 use Rattle.std.proofs.lemmas.Bool.{and_from, and_left, and_right}
 use Rattle.semantics.specs.declared.refusal.Refusal.{Refusal}
 use Rattle.semantics.specs.Bytes.{First, first_record, cut, from_two}
 use Rattle.semantics.specs.Conditions.{Comparison, Condition, compared, conjunction, disjunction, negation, Term, comparing, conjoining, disjoining, negating, terms, every_comparison}
 use Rattle.semantics.specs.Lists.{every}
-use Rattle.semantics.specs.Outcomes.{Outcome, done, refused, refuse, found, and_then}
+use Rattle.semantics.specs.Outcomes.{done, refuse, found, and_then}
 use Rattle.semantics.specs.Reading.{term_form, combined, term_step, term_faults, condition_form}
 use Rattle.semantics.specs.Walks.{single, walk}
-use Rattle.semantics.proofs.Every.{every_append}
 use Rattle.semantics.proofs.Outcomes.{refuse_not, then-done, found-done, cond_ways}
 use Rattle.query.specs.Terms.{FirstTerm, first_term, passes}
 use Rattle.query.proofs.Steps.{walk-term, walk-many, walk_end}

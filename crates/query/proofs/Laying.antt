@@ -1,17 +1,15 @@
 -- The relations of a stack in a plan, and what each record makes of them.
-use Rattle.std.proofs.Common.{◌≡◌, ℕ, suc, ◌+◌, ◌-◌, ◌<◌, ◌≤◌, Bool, true, false, cond, ◌&&◌, eqb, ltb, leb, ◌≢◌, ◌⊎◌, List, [], ◌∷◌, ◌++◌, map, length, get_or, drop, set, Some, None, Option, sym, refl, ap, ◌∙◌, subst, inl, inr, ⊎_elim, arith}
+use Rattle.std.proofs.Common.{◌≡◌, ℕ, ◌+◌, ◌-◌, ◌<◌, ◌≤◌, true, false, eqb, leb, ◌≢◌, List, [], ◌∷◌, ◌++◌, map, length, get_or, drop, set, Some, None, sym, refl, ap, ◌∙◌, subst, ⊎_elim, arith}
 use Rattle.std.proofs.lemmas.List.{append_assoc, length-append, length_push, get_or_push, get_or_append_left, get_or-append_right, get_or-set_same, get_or-set_other}
 use Rattle.std.proofs.lemmas.Bool.{le-leb, lt-leb, eq-eqb, ne_eqb, cases_lt}
-use Rattle.semantics.specs.declared.kind.Kind.{Kind}
 use Rattle.semantics.specs.declared.kind.Kind.TheVariants.{Number}
 use Rattle.semantics.specs.declared.kind.Column.{Column}
-use Rattle.semantics.specs.declared.refusal.Refusal.{Refusal}
 use Rattle.semantics.specs.declared.refusal.Refusal.TheVariants.{StackShort, NoSuchName, Unfit, ProductTooWide}
 use Rattle.semantics.specs.Conditions.{Condition, kind_at, named_comparison, fitting_comparison, every_comparison}
 use Rattle.semantics.specs.Kinds.{same_kind}
 use Rattle.semantics.specs.Lists.{pairwise}
-use Rattle.semantics.specs.Outcomes.{Outcome, done, refuse, question, and_then}
-use Rattle.semantics.specs.Queries.{Tree, table, select, project, product, union, difference, nodes, kinds_of, named, fitted, narrow}
+use Rattle.semantics.specs.Outcomes.{Outcome, done, refuse}
+use Rattle.semantics.specs.Queries.{Tree, table, select, project, product, union, difference, nodes, kinds_of}
 use Rattle.semantics.specs.Records.{Record, record_of, select_record, project_record, product_record, union_record, difference_record}
 use Rattle.query.specs.declared.kinds.Kinds.{Kinds}
 use Rattle.query.specs.declared.plan.Position.{Position}
@@ -19,7 +17,7 @@ use Rattle.query.specs.declared.plan.Plan.{Plan}
 use Rattle.query.specs.declared.step.Step.{Step}
 use Rattle.query.specs.Kinds.{kinds_in, among}
 use Rattle.query.specs.Plans.{Parted, NodeOf, Plans, laid, asked, Grew, SidesIs, lone}
-use Rattle.query.specs.Saying.{First, first_said}
+use Rattle.query.specs.Saying.{first_said}
 use Rattle.query.proofs.Widths.{wide}
 
 -- some kinds and some position

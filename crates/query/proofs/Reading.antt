@@ -1,11 +1,11 @@
 -- The questions put to one record.
-use Rattle.std.proofs.Common.{◌≡◌, ℕ, suc, ◌+◌, ◌<◌, ◌≤◌, Bool, true, false, cond, ◌&&◌, leb, List, [], ◌∷◌, length, Some, None, Option, sym, refl, ap, ◌∙◌, subst, arith}
+use Rattle.std.proofs.Common.{◌≡◌, ℕ, ◌≤◌, true, ◌&&◌, leb, List, Some, sym, ap, ◌∙◌}
 use Rattle.std.proofs.lemmas.Bool.{and_from, le-leb}
 use Rattle.semantics.specs.declared.refusal.Refusal.{Refusal}
 use Rattle.semantics.specs.declared.refusal.Refusal.TheVariants.{BrokenRecord, UnknownRecord, WrongForm}
 use Rattle.semantics.specs.Bytes as bytes
 use Rattle.semantics.specs.Bytes.{first_record}
-use Rattle.semantics.specs.Outcomes.{Outcome, done, refused, refuse, question, found, and_then}
+use Rattle.semantics.specs.Outcomes.{Outcome, done, question, found, and_then}
 use Rattle.semantics.specs.Reading.{record_form}
 use Rattle.semantics.specs.Records.{Record}
 use Rattle.semantics.proofs.Outcomes.{then-done, question-done}

@@ -1,5 +1,5 @@
 -- One step of a walk over condition records.
-use Rattle.std.proofs.Common.{◌≡◌, ℕ, zero, suc, ◌+◌, ◌-◌, ◌<◌, ◌≤◌, Bool, true, false, eqb, List, [], ◌∷◌, length, Some, None, Option, sym, refl, ap, ◌∙◌, subst, arith}
+use Rattle.std.proofs.Common.{◌≡◌, ℕ, suc, ◌+◌, ◌<◌, ◌≤◌, true, false, eqb, List, [], ◌∷◌, length, Some, None, Option, sym, refl, ap, ◌∙◌, arith}
 use Rattle.std.proofs.lemmas.Bool.{eq-eqb, ne_eqb}
 use Rattle.semantics.specs.declared.refusal.Refusal.{Refusal}
 use Rattle.semantics.specs.Bytes.{First, first_record}
@@ -9,7 +9,6 @@ use Rattle.semantics.specs.Reading.{term_form, combined, term_step, term_faults}
 use Rattle.semantics.specs.Walks.{single, walk}
 use Rattle.semantics.proofs.Outcomes.{refuse_not}
 use Rattle.query.specs.Saying.{Decided}
-use Rattle.query.specs.Terms as terms
 use Rattle.query.specs.Terms.{FirstTerm, first_term}
 
 module _ (e : Refusal) where

@@ -17,7 +17,7 @@ use policy::Policy;
 
 /// Writes the cell at a position.
 fn put(cells: &mut [Masked], at: Position, masked: Masked)
-    requires* { ⌜ length cells.old ≡ 8192 ⌝ ∗ (⌜ at.table < 4 ⌝ ∗ (⌜ at.row < 256 ⌝ ∗ ⌜ at.column < 8 ⌝)) }
+    requires { (length cells.old ≡ 8192) × ((at.table < 4) × ((at.row < 256) × (at.column < 8))) }
     ensures { cells.new ≡ slice_set cells.old (place at.table at.row at.column) masked }
 {
     cells[32 * at.row + 8 * at.table + at.column] = masked;
@@ -33,7 +33,7 @@ fn draw_row<P: Policy>(
     table: usize,
     row: usize,
 )
-    requires* fits { ⌜ length cells.old ≡ 8192 ⌝ ∗ (⌜ table < 4 ⌝ ∗ ⌜ row < length (rows_of (book_model book.now) table) ⌝) }
+    requires fits { (length cells.old ≡ 8192) × ((table < 4) × (row < length (rows_of (book_model book.now) table))) }
     requires drawn { DrawnFor (P.Policy.meaning policy.now) broker (book_model book.now) (place_of table row 0) cells.old numbers.old }
     ensures { DrawnFor (P.Policy.meaning policy.now) broker (book_model book.now) (place_of table (row + 1) 0) cells.new numbers.new }
 {

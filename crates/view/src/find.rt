@@ -32,7 +32,7 @@ fn find_in_column(
     rows: usize,
     value: &Cell,
 ) -> Option<u16>
-    requires* { ⌜ length cells.now ≡ 8192 ⌝ ∗ (⌜ table < 4 ⌝ ∗ (⌜ column < 8 ⌝ ∗ ⌜ rows ≤ 256 ⌝)) }
+    requires { (length cells.now ≡ 8192) × ((table < 4) × ((column < 8) × (rows ≤ 256))) }
     ensures { Found cells.now (book_model book.now) (cell_value value.now) (InColumn table column rows) result }
 {
     for row in 0..rows {
@@ -70,7 +70,7 @@ fn find_in_table(
     table: usize,
     value: &Cell,
 ) -> Option<u16>
-    requires* { ⌜ length cells.now ≡ 8192 ⌝ ∗ (⌜ at.table < 4 ⌝ ∗ (⌜ at.row < 256 ⌝ ∗ ⌜ table ≤ at.table ⌝)) }
+    requires { (length cells.now ≡ 8192) × ((at.table < 4) × ((at.row < 256) × (table ≤ at.table))) }
     ensures { Found cells.now (book_model book.now) (cell_value value.now) (InTable (book_model book.now) (place_at at) domain table) result }
 {
     let columns = book.columns(table);
@@ -93,7 +93,7 @@ pub(crate) fn find(
     domain: u8,
     value: &Cell,
 ) -> Option<u16>
-    requires* { ⌜ length cells.now ≡ 8192 ⌝ ∗ (⌜ at.table < 4 ⌝ ∗ ⌜ at.row < 256 ⌝) }
+    requires { (length cells.now ≡ 8192) × ((at.table < 4) × (at.row < 256)) }
     ensures { Found cells.now (book_model book.now) (cell_value value.now) (InDomain (book_model book.now) (place_at at) domain) result }
 {
     for table in 0..at.table + 1 {

@@ -35,8 +35,8 @@ fn index_of(
     domain: u8,
     value: &Cell,
 ) -> u16
-    requires* place { ⌜ length cells.now ≡ 8192 ⌝ ∗ (⌜ at.table < 4 ⌝ ∗ ⌜ at.row < 256 ⌝) }
-    requires* count { ⌜ domain < 16 ⌝ ∗ (⌜ length numbers.old ≡ 16 ⌝ ∗ ⌜ slice_index numbers.old domain < 8192 ⌝) }
+    requires place { (length cells.now ≡ 8192) × ((at.table < 4) × (at.row < 256)) }
+    requires count { (domain < 16) × ((length numbers.old ≡ 16) × (slice_index numbers.old domain < 8192)) }
     ensures index { Indexed cells.now (book_model book.now) (cell_value value.now) (InDomain (book_model book.now) (place_at at) domain) (slice_index numbers.old domain) result }
     ensures raised { numbers.new ≡ slice_set numbers.old domain (slice_index numbers.old domain + 1) }
 {
@@ -56,7 +56,7 @@ fn pseudonym(
     at: Position,
     domain: u8,
 ) -> Masked
-    requires* place { ⌜ length cells.now ≡ 8192 ⌝ ∗ (⌜ at.table < 4 ⌝ ∗ ⌜ at.row < 256 ⌝) }
+    requires place { (length cells.now ≡ 8192) × ((at.table < 4) × (at.row < 256)) }
     requires count { (length numbers.old ≡ 16) × (((d : ℕ) → 1 ≤ d → d < 16 → slice_index numbers.old d < 8192)) }
     requires linked { (domain ≡ domain_of (book_model book.now) (place_at at)) × (1 ≤ domain) }
     ensures masks { Masks cells.now (book_model book.now) Linked (place_at at) (slice_index numbers.old (domain_of (book_model book.now) (place_at at))) result }
@@ -69,7 +69,7 @@ fn pseudonym(
 
 /// The variable of a place.
 fn variable(table: usize, row: usize, column: usize) -> Masked
-    requires* { ⌜ table < 256 ⌝ ∗ (⌜ row < 256 ⌝ ∗ ⌜ column < 256 ⌝) }
+    requires { (table < 256) × ((row < 256) × (column < 256)) }
     ensures { result ≡ Variable table row column }
 {
     Masked::Variable {
@@ -87,7 +87,7 @@ pub(crate) fn mask(
     at: Position,
     mark: Mark,
 ) -> Masked
-    requires* place { ⌜ length cells.now ≡ 8192 ⌝ ∗ (⌜ at.table < 4 ⌝ ∗ (⌜ at.row < 256 ⌝ ∗ ⌜ at.column < 8 ⌝)) }
+    requires place { (length cells.now ≡ 8192) × ((at.table < 4) × ((at.row < 256) × (at.column < 8))) }
     requires count { (length numbers.old ≡ 16) × (((d : ℕ) → 1 ≤ d → d < 16 → slice_index numbers.old d < 8192)) }
     ensures masks { Masks cells.now (book_model book.now) mark (place_at at) (slice_index numbers.old (domain_of (book_model book.now) (place_at at))) result }
     ensures raised { Raised mark (domain_of (book_model book.now) (place_at at)) numbers.old numbers.new }

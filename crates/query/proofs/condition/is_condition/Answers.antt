@@ -1,11 +1,9 @@
-use Rattle.std.proofs.Common.{◌≡◌, ℕ, suc, ◌+◌, ◌-◌, ◌≤◌, List, [], length, sym, refl, ap, ◌∙◌, arith}
-use Rattle.semantics.specs.declared.refusal.Refusal.{Refusal}
+use Rattle.std.proofs.Common.{◌≡◌, ◌+◌, ◌-◌, ◌≤◌, [], sym, refl, ap, ◌∙◌, arith}
 use Rattle.semantics.specs.declared.refusal.Refusal.TheVariants.{QueryLength}
-use Rattle.semantics.specs.Conditions.{Condition}
-use Rattle.semantics.specs.Outcomes.{Outcome, done, refuse, and_then}
+use Rattle.semantics.specs.Outcomes.{and_then}
 use Rattle.semantics.specs.Reading.{condition_form, term_step, term_faults, combined}
 use Rattle.semantics.specs.Walks.{walk}
-use Rattle.query.specs.Terms.{term_of, first_term}
+use Rattle.query.specs.Terms.{term_of}
 use Rattle.query.proofs.Steps.{walk-term, walk-many, walk_end, single-decided, combined-depth}
 use Rattle.query.proofs.condition.is_condition.Goals as goal
 
@@ -17,33 +15,33 @@ returns-then-count-eq15 c e =
     let i = c.loop-rest.invariant.2 e in
     sym i.2 ∙ walk-many e (15 - c.loop-rest.count) c.loop-rest.count i.0 c.loop-rest.rest.now (omega arith) c.loop-rest-test.true
 
-pub returns-in-default : goal.returns-in-default
-returns-in-default c e =
+pub returns-in_default : goal.returns-in_default
+returns-in_default c e =
     let i = c.loop-rest.invariant.2 e in
     sym i.2
     ∙ walk-term e (15 - c.loop-rest.count) (14 - c.loop-rest.count) c.loop-rest.count i.0 c.loop-rest.rest.now (omega arith) c.loop-rest-test.true
-    ∙ ap (λ o. and_then o (λ t. and_then (combined e t.term i.0) (λ next. walk (term_faults e) (term_step e) (14 - c.loop-rest.count) (c.loop-rest.count + 1) next t.rest))) (c.in-default.ensures e)
+    ∙ ap (λ o. and_then o (λ t. and_then (combined e t.term i.0) (λ next. walk (term_faults e) (term_step e) (14 - c.loop-rest.count) (c.loop-rest.count + 1) next t.rest))) (c.in_default.ensures e)
 
-pub returns-in-default-depth-after : goal.returns-in-default-depth-after
-returns-in-default-depth-after c e =
+pub returns-in_default-depth_after : goal.returns-in_default-depth_after
+returns-in_default-depth_after c e =
     let i = c.loop-rest.invariant.2 e in
     sym i.2
     ∙ walk-term e (15 - c.loop-rest.count) (14 - c.loop-rest.count) c.loop-rest.count i.0 c.loop-rest.rest.now (omega arith) c.loop-rest-test.true
     ∙ ap (λ o. and_then o (λ t. and_then (combined e t.term i.0) (λ next. walk (term_faults e) (term_step e) (14 - c.loop-rest.count) (c.loop-rest.count + 1) next t.rest))) (c.in-Some.ensures e)
-    ∙ ap (λ o. and_then o (λ next. walk (term_faults e) (term_step e) (14 - c.loop-rest.count) (c.loop-rest.count + 1) next c.in-Some.behind.now)) (c.in-default-depth-after.ensures e i.0 i.1)
+    ∙ ap (λ o. and_then o (λ next. walk (term_faults e) (term_step e) (14 - c.loop-rest.count) (c.loop-rest.count + 1) next c.in-Some.behind.now)) (c.in_default-depth_after.ensures e i.0 i.1)
 
 pub loop-rest-preserved : goal.loop-rest-preserved
 loop-rest-preserved c =
-    let deep : c.in-Some-depth-after.next ≤ c.loop-rest.count + 1 =
+    let deep : c.in-Some-depth_after.next ≤ c.loop-rest.count + 1 =
     (let i = c.loop-rest.invariant.2 QueryLength in
-    let d = c.in-Some-depth-after.ensures QueryLength i.0 i.1 in
+    let d = c.in-Some-depth_after.ensures QueryLength i.0 i.1 in
     let k = combined-depth QueryLength (term_of c.in-Some.term) i.0 d.0 d.1 in
     omega (arith, i.1, d.2, k)) in (
       omega arith,
       deep,
       λ e.
           let i = c.loop-rest.invariant.2 e in
-          let d = c.in-Some-depth-after.ensures e i.0 i.1 in
+          let d = c.in-Some-depth_after.ensures e i.0 i.1 in
           let m : 14 - c.loop-rest.count ≡ 15 - (c.loop-rest.count + 1) = omega arith in (
             d.0,
             d.2,

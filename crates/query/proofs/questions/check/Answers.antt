@@ -1,13 +1,13 @@
-use Rattle.std.proofs.Common.{◌≡◌, ℕ, ◌+◌, ◌-◌, ◌<◌, ◌≤◌, List, [], ◌∷◌, length, drop, sym, refl, ap, ◌∙◌, subst, inl, inr, ⊎_elim, arith}
+use Rattle.std.proofs.Common.{◌≡◌, ℕ, ◌+◌, ◌-◌, ◌<◌, List, [], ◌∷◌, length, drop, sym, ap, ◌∙◌, subst, inl, inr, ⊎_elim, arith}
 use Rattle.std.proofs.lemmas.Result.{err_from_is_err_and}
 use Rattle.semantics.specs.declared.refusal.Refusal.TheVariants.{NotOneRelation}
-use Rattle.semantics.specs.Outcomes.{done, refuse}
+use Rattle.semantics.specs.Outcomes.{done}
 use Rattle.semantics.specs.Queries.{Tree}
-use Rattle.semantics.specs.Reading.{questions, record_step, query_faults}
+use Rattle.semantics.specs.Reading.{record_step, query_faults}
 use Rattle.semantics.specs.Walks.{walk}
 use Rattle.semantics.proofs.Trees.{reads-exactly, reads-one-way}
 use Rattle.book.specs.Books.{book_model}
-use Rattle.query.specs.Plans.{Plans, laid, asked, Grew}
+use Rattle.query.specs.Plans.{Plans, asked, Grew}
 use Rattle.query.specs.Saying.{First, first_said}
 use Rattle.query.proofs.Checking.{walk-many, walk_end, long-enough, wrong_length, short-said, lone-done, lone_not, said-rest, end_of_end, went_unsaid, went-unasked, went_on}
 use Rattle.query.proofs.questions.check.Goals as goal
@@ -43,35 +43,35 @@ returns-then-number-eq15 c =
       certain = reads-one-way;
     }
 
-pub returns-in-err-check : goal.returns-in-err-check
-returns-in-err-check c =
+pub returns-in_err-check : goal.returns-in_err-check
+returns-in_err-check c =
     let columns = (book_model c.args.book.now).columns in
     let i = c.loop-rest.invariant.2 in
-    let p = err_from_is_err_and c.from-residual.result c.from-residual.ensures.1 in
+    let p = err_from_is_err_and c.from_residual.result c.from_residual.ensures.1 in
     let few : c.loop-rest.plan.count < 15 = omega (arith, c.loop-rest.plan.few) in
     record {
       plan =
           rw (p.1, p.2)
           (long-enough columns c.args.query.now (omega arith) (omega arith)
           ∙ sym i.2
-          ∙ went_unsaid columns c.loop-rest.plan.count i.0 c.loop-rest.rest.now few c.loop-rest-test.true _ c.in-err-check.ensures);
+          ∙ went_unsaid columns c.loop-rest.plan.count i.0 c.loop-rest.rest.now few c.loop-rest-test.true _ c.in_err-check.ensures);
       exact = reads-exactly;
       certain = reads-one-way;
     }
 
 pub grow-requires : goal.grow-requires
 grow-requires c =
-    let f = c.in-ok-check.ensures in
+    let f = c.in_ok-check.ensures in
     let r = c.read.ensures f.0 f.1 in
     (omega (arith, c.loop-rest.plan.few), short-said c.loop-rest.plan.count c.read.result.0 f.0.says r.0)
 
-pub returns-in-err-step : goal.returns-in-err-step
-returns-in-err-step c =
+pub returns-in_err-step : goal.returns-in_err-step
+returns-in_err-step c =
     let columns = (book_model c.args.book.now).columns in
     let i = c.loop-rest.invariant.2 in
-    let f = c.in-ok-check.ensures in
+    let f = c.in_ok-check.ensures in
     let r = c.read.ensures f.0 f.1 in
-    let p = err_from_is_err_and c.from-residual-in-err-step.result c.from-residual-in-err-step.ensures.1 in
+    let p = err_from_is_err_and c.from_residual-in_err-step.result c.from_residual-in_err-step.ensures.1 in
     let few : c.loop-rest.plan.count < 15 = omega (arith, c.loop-rest.plan.few) in
     record {
       plan =
@@ -79,7 +79,7 @@ returns-in-err-step c =
           (long-enough columns c.args.query.now (omega arith) (omega arith)
           ∙ sym i.2
           ∙ went-unasked columns c.loop-rest.plan.count i.0 c.loop-rest.rest.now few c.loop-rest-test.true f.0 _ f.1
-          (c.in-err-step.ensures c.args.query.now i.0 f.0.says i.1 r.0));
+          (c.in_err-step.ensures c.args.query.now i.0 f.0.says i.1 r.0));
       exact = reads-exactly;
       certain = reads-one-way;
     }
@@ -92,12 +92,12 @@ loop-rest-preserved c =
     let rest : List ℕ = c.loop-rest.rest.now in
     let v = c.loop-rest.invariant in
     let stack : List Tree = v.2.0 in
-    let f : First = c.in-ok-check.ensures.0 in
-    let said : first_said n rest ≡ done f = c.in-ok-check.ensures.1 in
+    let f : First = c.in_ok-check.ensures.0 in
+    let said : first_said n rest ≡ done f = c.in_ok-check.ensures.1 in
     let r = c.read.ensures f said in
     let s = said-rest n rest f said in
     let few : n < 15 = omega (arith, c.loop-rest.plan.few) in
-    let g : Grew columns stack c.in-ok-step.step f.says (asked columns n stack f.says) = c.in-ok-step.ensures q stack f.says v.2.1 r.0 in (
+    let g : Grew columns stack c.in_ok-step.step f.says (asked columns n stack f.says) = c.in_ok-step.ensures q stack f.says v.2.1 r.0 in (
       omega (arith, ap length r.1, s.0, v.0),
       subst (λ (b : List ℕ). drop (length q - length b) q ≡ b) (sym r.1) (end_of_end q rest f.rest v.0 v.1 s.0 s.1),
       (
@@ -110,8 +110,8 @@ loop-rest-preserved c =
       ),
     )
 
-pub returns-then-not-is-single : goal.returns-then-not-is-single
-returns-then-not-is-single c =
+pub returns-then-not-is_single : goal.returns-then-not-is_single
+returns-then-not-is_single c =
     let columns = (book_model c.args.book.now).columns in
     let i = c.loop-rest.invariant.2 in
     record {
@@ -119,7 +119,7 @@ returns-then-not-is-single c =
           long-enough columns c.args.query.now (omega arith) (omega arith)
           ∙ sym i.2
           ∙ walk_end columns (15 - c.loop-rest.plan.count) c.loop-rest.plan.count i.0 c.loop-rest.rest.now (omega arith)
-          ∙ lone_not (NotOneRelation c.loop-rest.plan.count) i.0 (c.if-not-is-single.ensures columns c.args.query.now i.0 i.1);
+          ∙ lone_not (NotOneRelation c.loop-rest.plan.count) i.0 (c.if-not-is_single.ensures columns c.args.query.now i.0 i.1);
       exact = reads-exactly;
       certain = reads-one-way;
     }
@@ -128,7 +128,7 @@ pub returns : goal.returns
 returns c =
     let columns = (book_model c.args.book.now).columns in
     let i = c.loop-rest.invariant.2 in
-    let l = lone-done (NotOneRelation c.loop-rest.plan.count) i.0 (c.if-not-is-single.ensures columns c.args.query.now i.0 i.1) in
+    let l = lone-done (NotOneRelation c.loop-rest.plan.count) i.0 (c.if-not-is_single.ensures columns c.args.query.now i.0 i.1) in
     record {
       plan = (
         l.0,

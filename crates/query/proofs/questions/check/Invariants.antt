@@ -1,4 +1,4 @@
-use Rattle.std.proofs.Common.{◌≡◌, ℕ, ◌-◌, ◌≤◌, List, [], length, drop}
+use Rattle.std.proofs.Common.{◌≡◌, ◌-◌, ◌≤◌, List, [], length, drop}
 use Rattle.semantics.specs.Queries.{Tree}
 use Rattle.semantics.specs.Reading.{record_step, query_faults}
 use Rattle.semantics.specs.Walks.{walk}

@@ -11,7 +11,7 @@ returns g c =
     let a = c.args in
     let m = book_model a.book.now in
     let mark = marks (g.P.Policy.meaning a.policy.now) a.broker m in
-    let n = c.row-count-row-end.ensures in
+    let n = c.row_count-row-end.ensures in
     let e : c.loop-row.row ≡ length (rows_of (book_model a.book.now) a.table) = omega arith in
     drawn-table mark m c.loop-row.cells c.loop-row.numbers a.table
     (subst (λ k. Drawn mark m (place_of a.table k 0) c.loop-row.cells c.loop-row.numbers) e c.loop-row.invariant)

@@ -4,10 +4,10 @@ use Rattle.book.specs.Books.{book_model}
 use Rattle.view.proofs.Finding.{read_cell, read_short, read_none}
 use Rattle.view.proofs.find.cell_at.Goals as goal
 
-pub returns-in-default : goal.returns-in-default
-returns-in-default c =
+pub returns-in_default : goal.returns-in_default
+returns-in_default c =
     let at = c.args.at in
-    read_none (rows_of (book_model c.args.book.now) at.table) at.row at.column c.in-default.ensures
+    read_none (rows_of (book_model c.args.book.now) at.table) at.row at.column c.in_default.ensures
 
 pub returns-then-at-row : goal.returns-then-at-row
 returns-then-at-row c =

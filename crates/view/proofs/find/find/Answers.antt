@@ -13,7 +13,7 @@ returns-in-Some c =
 pub loop-table-preserved : goal.loop-table-preserved
 loop-table-preserved c =
     let a = c.args in
-    domain-on a.cells.now (book_model a.book.now) (cell_value a.value.now) (place_at a.at) a.domain c.loop-table.table c.loop-table.invariant c.in-default.ensures
+    domain-on a.cells.now (book_model a.book.now) (cell_value a.value.now) (place_at a.at) a.domain c.loop-table.table c.loop-table.invariant c.in_default.ensures
 
 pub returns : goal.returns
 returns c =

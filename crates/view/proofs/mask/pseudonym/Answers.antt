@@ -6,8 +6,8 @@ use Rattle.view.proofs.Books.{domain_lt}
 use Rattle.view.proofs.Drawing.{masks_linked, raised-linked}
 use Rattle.view.proofs.mask.pseudonym.Goals as goal
 
-pub index-of-index-requires : goal.index-of-index-requires
-index-of-index-requires c =
+pub index_of-index-requires : goal.index_of-index-requires
+index_of-index-requires c =
     let a = c.args in
     let p = c.requires in
     let l = domain_lt a.book.now a.at.table a.at.column in
@@ -21,6 +21,6 @@ returns c =
     let l = domain_lt a.book.now a.at.table a.at.column in
     let low : a.domain < 16 = omega arith in
     record {
-      masks = masks_linked Linked a.domain refl p.linked.1 a.cells.now (book_model a.book.now) (place_at a.at) a.numbers.now c.index-of-index.result _ p.linked.0 c.cell-at-cell.ensures c.index-of-index.ensures.index;
-      raised = raised-linked Linked a.domain refl p.linked.1 _ a.numbers.now c.index-of-index.new.numbers p.linked.0 p.count.0 low c.index-of-index.ensures.raised;
+      masks = masks_linked Linked a.domain refl p.linked.1 a.cells.now (book_model a.book.now) (place_at a.at) a.numbers.now c.index_of-index.result _ p.linked.0 c.cell_at-cell.ensures c.index_of-index.ensures.index;
+      raised = raised-linked Linked a.domain refl p.linked.1 _ a.numbers.now c.index_of-index.new.numbers p.linked.0 p.count.0 low c.index_of-index.ensures.raised;
     }

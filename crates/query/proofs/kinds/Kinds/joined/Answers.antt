@@ -1,4 +1,4 @@
-use Rattle.std.proofs.Common.{length, get_or, sym, refl, ap, ◌∙◌, arith}
+use Rattle.std.proofs.Common.{length, get_or, ap, arith}
 use Rattle.semantics.specs.declared.kind.Kind.TheVariants.{Number}
 use Rattle.query.specs.Kinds.{kinds_in}
 use Rattle.query.proofs.Widths.{room_joined, more-joined, all-joined}

@@ -1,4 +1,4 @@
-use Rattle.std.proofs.Common.{[], sym, refl, ap, ◌∙◌, arith}
+use Rattle.std.proofs.Common.{[], refl}
 use Rattle.semantics.specs.declared.kind.Column.{Column}
 use Rattle.semantics.specs.Books.{column_at}
 use Rattle.query.specs.Kinds.{kinds_in}

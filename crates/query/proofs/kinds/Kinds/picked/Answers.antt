@@ -1,4 +1,4 @@
-use Rattle.std.proofs.Common.{ltb, length, get_or, sym, refl, ap, ◌∙◌, arith}
+use Rattle.std.proofs.Common.{ltb, length, sym, arith}
 use Rattle.std.proofs.lemmas.Bool.{lt-ltb, le-ltb}
 use Rattle.semantics.specs.Conditions.{kind_at}
 use Rattle.semantics.proofs.Every.{every-on, every_not, every-end}

@@ -2,11 +2,11 @@ use Rattle.std.proofs.Common.{refl}
 use Rattle.query.proofs.Laying.{union-short, union_unfit, union_grew, difference-short, difference_unfit, difference_grew}
 use Rattle.query.proofs.plan.Plan.merge.Goals as goal
 
-pub returns-in-default : goal.returns-in-default
-returns-in-default c =
+pub returns-in_default : goal.returns-in_default
+returns-in_default c =
     record {
-      union = λ columns bytes stack plans. union-short columns bytes c.args.self.now stack (c.in-default.ensures.sides columns bytes stack plans);
-      difference = λ columns bytes stack plans. difference-short columns bytes c.args.self.now stack (c.in-default.ensures.sides columns bytes stack plans);
+      union = λ columns bytes stack plans. union-short columns bytes c.args.self.now stack (c.in_default.ensures.sides columns bytes stack plans);
+      difference = λ columns bytes stack plans. difference-short columns bytes c.args.self.now stack (c.in_default.ensures.sides columns bytes stack plans);
     }
 
 pub returns-then-not-same : goal.returns-then-not-same

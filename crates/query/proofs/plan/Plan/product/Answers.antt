@@ -2,8 +2,8 @@ use Rattle.std.proofs.Common.{refl}
 use Rattle.query.proofs.Laying.{product-short, product_wide, product_grew}
 use Rattle.query.proofs.plan.Plan.product.Goals as goal
 
-pub returns-in-default : goal.returns-in-default
-returns-in-default c columns bytes stack plans = product-short columns bytes c.args.self.now stack (c.in-default.ensures.sides columns bytes stack plans)
+pub returns-in_default : goal.returns-in_default
+returns-in_default c columns bytes stack plans = product-short columns bytes c.args.self.now stack (c.in_default.ensures.sides columns bytes stack plans)
 
 pub returns-then-kinds-right-gt8 : goal.returns-then-kinds-right-gt8
 returns-then-kinds-right-gt8 c columns bytes stack plans =

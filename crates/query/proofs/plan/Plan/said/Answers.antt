@@ -1,4 +1,4 @@
-use Rattle.std.proofs.Common.{sym, ◌∙◌, arith}
+use Rattle.std.proofs.Common.{sym, ◌∙◌}
 use Rattle.semantics.specs.declared.refusal.Refusal.TheVariants.{BrokenRecord}
 use Rattle.query.proofs.Checking.{said-past, said-beyond, said_in}
 use Rattle.query.proofs.plan.Plan.said.Goals as goal

@@ -7,5 +7,5 @@ returns-else-depth-lt2 c e stack l = joins e c.args.self stack c.args.depth c.in
 pub returns-else-depth-lt1 : goal.returns-else-depth-lt1
 returns-else-depth-lt1 c e stack l = negates e c.args.self stack c.args.depth c.in-Not.is l c.if-depth-lt1.false
 
-pub returns-in-default : goal.returns-in-default
-returns-in-default c e stack l = compares e c.args.self stack c.args.depth c.in-default.not-And c.in-default.not-Or c.in-default.not-Not l
+pub returns-in_default : goal.returns-in_default
+returns-in_default c e stack l = compares e c.args.self stack c.args.depth c.in_default.not-And c.in_default.not-Or c.in_default.not-Not l
