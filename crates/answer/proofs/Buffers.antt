@@ -1,7 +1,6 @@
 -- Cells written into a buffer behind those that it holds.
-use Rattle.std.proofs.Common.{◌≡◌, ℕ, ◌+◌, ◌-◌, ◌<◌, ◌≤◌, List, [], ◌∷◌, ◌++◌, map, length, get_or, take, drop, sym, refl, ap, ◌∙◌, arith}
+use Rattle.std.proofs.Common.{◌≡◌, ℕ, ◌+◌, ◌-◌, ◌<◌, ◌≤◌, List, ◌++◌, map, length, get_or, take, sym, refl, ap, ◌∙◌, arith}
 use borrow.Rule.Slice.PartMut.{put_mid}
-use lib.Seq.{paste}
 use Rattle.std.proofs.lemmas.List.{length-append, length-take, length-drop, length-map, get_or-map, get_or_past, map-append}
 use Rattle.std.proofs.lemmas.Slice.{put_mid-paste, take-put_mid}
 use Rattle.semantics.specs.Truths.{cell_at}

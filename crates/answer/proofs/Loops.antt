@@ -1,5 +1,5 @@
 -- Loops that put rows into a block, one after another.
-use Rattle.std.proofs.Common.{◌≡◌, ℕ, ◌+◌, ◌<◌, ◌≤◌, Bool, true, false, cond, List, [], ◌∷◌, ◌++◌, length, get_or, take, drop, Some, None, filter, Option, sym, refl, ap, ◌∙◌, subst, arith}
+use Rattle.std.proofs.Common.{◌≡◌, ℕ, ◌+◌, ◌<◌, ◌≤◌, Bool, true, false, cond, List, [], ◌∷◌, ◌++◌, length, get_or, take, drop, Some, None, filter, sym, ap, ◌∙◌, subst, arith}
 use Rattle.std.proofs.lemmas.List.{append_assoc, append-nil, length_push, take_more, take-append-drop}
 use Rattle.std.proofs.lemmas.Bool.{cond-true, cond-false}
 use Rattle.semantics.specs.Answers.{same_row, without_repeats}
@@ -9,7 +9,7 @@ use Rattle.semantics.proofs.Pushes.{kept_push, without-push}
 use Rattle.view.specs.declared.masked.Masked.{Masked}
 use Rattle.workspace.specs.declared.block.Block.{Block}
 use Rattle.workspace.specs.Blocks.{block_rows}
-use Rattle.answer.specs.Places.{Untouched, Placed, Pushed, Makes, inserted}
+use Rattle.answer.specs.Places.{Untouched, Placed, Makes, inserted}
 use Rattle.answer.proofs.Places.{untouched-same, untouched-more}
 
 abbrev Rows : Type 0

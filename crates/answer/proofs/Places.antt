@@ -1,5 +1,5 @@
 -- What a write to one row leaves of a workspace, and what a block holds then.
-use Rattle.std.proofs.Common.{◌≡◌, ℕ, ◌+◌, ◌-◌, ◌*◌, ◌<◌, ◌≤◌, true, false, cond, ◌⊎◌, List, [], ◌∷◌, ◌++◌, map, length, take, drop, Some, None, sym, refl, ap, ◌∙◌, inl, inr, ⊎_elim, arith}
+use Rattle.std.proofs.Common.{◌≡◌, ℕ, ◌+◌, ◌-◌, ◌*◌, ◌<◌, ◌≤◌, true, false, ◌⊎◌, List, [], ◌∷◌, ◌++◌, map, length, take, drop, Some, None, sym, refl, ap, ◌∙◌, inl, inr, ⊎_elim, arith}
 use borrow.Rule.Slice.PartMut.{put_mid}
 use Rattle.std.proofs.lemmas.List.{take-take, drop-take, length_push}
 use Rattle.std.proofs.lemmas.Slice.{take-put_mid_below, drop-put_mid, between-put_mid}
@@ -13,7 +13,7 @@ use Rattle.view.specs.Views.{masked_of}
 use Rattle.workspace.specs.declared.block.Block.{Block}
 use Rattle.workspace.specs.Blocks.{row_at, block_rows}
 use Rattle.workspace.proofs.Reading.{length_rows}
-use Rattle.answer.specs.Places.{eight, Untouched, Apart, Placed, Pushed, Makes, inserted}
+use Rattle.answer.specs.Places.{eight, Untouched, Apart, Pushed, Makes, inserted}
 use Rattle.answer.proofs.Buffers.{length_written}
 
 -- rows that are as they were
@@ -116,4 +116,4 @@ module _ (limit : ℕ) (to : Block) (old : List Masked) (row : List semantics.Ma
       (omega arith, untouched-same to.first limit old)
 
   pub inserted-behind : (new : List Masked) (b : Block) → false ≡ some (same_row row) (block_rows old to) → Pushed limit to row old new b → Makes limit to.first to.width (inserted (block_rows old to) row) old new (Some b)
-  inserted-behind new b e p = (p.placed, p.holds ∙ sym (longer e))
+  inserted-behind made b e p = (p.placed, p.holds ∙ sym (longer e))

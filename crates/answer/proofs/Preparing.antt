@@ -1,5 +1,5 @@
 -- The answers of a record's parts are found before its own.
-use Rattle.std.proofs.Common.{◌≡◌, ℕ, ◌<◌, ◌≤◌, List, Some, None, Option, sym, subst, arith, Bor}
+use Rattle.std.proofs.Common.{◌≡◌, ℕ, List, Some, None, Option, sym, subst, Bor}
 use Rattle.semantics.specs.declared.kind.Column.{Column}
 use Rattle.semantics.specs.Queries.{Tree}
 use Rattle.view.specs.declared.masked.Masked.{Masked}
@@ -9,7 +9,7 @@ use Rattle.answer.specs.declared.bound.Bound.{Bound}
 use Rattle.answer.specs.declared.step.Step.{Step}
 use Rattle.answer.specs.declared.step.Step.TheVariants.{Table, Select, Project, Product, Union, Difference}
 use Rattle.answer.specs.Bounds.{other, slot}
-use Rattle.answer.specs.Memos.{Held, There, Grown, Ready, Settled, Found}
+use Rattle.answer.specs.Memos.{Held, Grown, Ready, Settled, Found}
 
 -- what a step needs is there
 pub record Prepared (columns : List (List Column)) (v : View) (q : Tree) (bound : Bound) (step : Step) (cells : List Masked) (old new : List (Option Block)) : Type 0 where

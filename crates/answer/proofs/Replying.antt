@@ -1,11 +1,11 @@
 -- What is written is the reply of the definition.
-use Rattle.std.proofs.Common.{◌≡◌, ℕ, ◌-◌, ◌/◌, ◌<◌, ◌≤◌, min, true, false, leb, List, ◌++◌, length, drop, Some, None, Ok, Err, sym, refl, ap, ◌∙◌, ap₂, arith}
+use Rattle.std.proofs.Common.{◌≡◌, ℕ, true, false, leb, List, ◌++◌, length, drop, Some, None, Ok, Err, sym, refl, ap, ◌∙◌, ap₂, arith}
 use Rattle.std.proofs.lemmas.List.{length-append, length-drop}
 use Rattle.std.proofs.lemmas.Bool.{le-leb, lt-leb}
 use Rattle.semantics.specs.declared.refusal.Refusal.TheVariants.{ReplyTooLong}
-use Rattle.semantics.specs.Answers.{certain, possible, overflow}
+use Rattle.semantics.specs.Answers.{overflow}
 use Rattle.semantics.specs.Asks.{capacity, reply_to, replied}
-use Rattle.semantics.specs.Outcomes.{done, refuse}
+use Rattle.semantics.specs.Outcomes.{refuse}
 use Rattle.semantics.specs.Queries.{Tree, nodes}
 use Rattle.semantics.specs.Replies.{reply_bytes}
 use Rattle.semantics.specs.Views as semantics

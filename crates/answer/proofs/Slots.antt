@@ -1,5 +1,5 @@
 -- The rows of the 30 slots of a workspace do not meet.
-use Rattle.std.proofs.Common.{◌≡◌, ℕ, suc, ◌+◌, ◌*◌, ◌<◌, ◌≤◌, ◌⊎◌, subst, inl, mul-le-mul_right, suc-mul, arith}
+use Rattle.std.proofs.Common.{◌≡◌, ℕ, suc, ◌+◌, ◌*◌, ◌<◌, ◌≤◌, subst, inl, mul-le-mul_right, suc-mul, arith}
 use Rattle.workspace.specs.declared.block.Block.{Block}
 use Rattle.answer.specs.declared.bound.Bound.{Bound}
 use Rattle.answer.specs.declared.bound.Bound.TheVariants.{Low, High}

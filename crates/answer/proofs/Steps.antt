@@ -1,23 +1,18 @@
 -- The steps of a plan are those of its relations.
-use Rattle.std.proofs.Common.{◌≡◌, ℕ, ◌-◌, ◌<◌, ◌≤◌, true, ltb, List, map, length, get_or, drop, Some, None, sym, refl, ap, ◌∙◌, subst, arith}
+use Rattle.std.proofs.Common.{◌≡◌, ℕ, ◌-◌, ◌<◌, true, ltb, List, length, get_or, Some, None, sym, ◌∙◌, subst, arith}
 use Rattle.std.proofs.lemmas.List.{get_or-map}
-use Rattle.std.proofs.lemmas.Bool.{lt-ltb, cond-true}
+use Rattle.std.proofs.lemmas.Bool.{lt-ltb}
 use Rattle.semantics.specs.declared.kind.Column.{Column}
-use Rattle.semantics.specs.declared.refusal.Refusal.{Refusal}
-use Rattle.semantics.specs.declared.refusal.Refusal.TheVariants.{BrokenRecord}
 use Rattle.semantics.specs.Conditions.{Condition}
-use Rattle.semantics.specs.Outcomes.{Outcome, done, refuse}
+use Rattle.semantics.specs.Outcomes.{done}
 use Rattle.semantics.specs.Queries.{Tree, table, select, project, product, union, difference}
-use Rattle.semantics.specs.Records as records
 use Rattle.semantics.specs.Records.{record_of, table_record, select_record, project_record, product_record, union_record, difference_record}
 use Rattle.semantics.proofs.Outcomes.{refuse_not}
-use Rattle.query.specs.declared.kinds.Kinds.{Kinds}
 use Rattle.query.specs.declared.plan.Position.{Position}
 use Rattle.query.specs.declared.plan.Plan.{Plan}
 use Rattle.query.specs.declared.record.Record.{Record}
-use Rattle.query.specs.declared.record.Record.TheVariants.{Table, Select, Project, Product, Union, Difference}
 use Rattle.query.specs.Plans.{Plans, Parted, record_at, beginning, SaidIs}
-use Rattle.query.specs.Saying.{First, first_said, Says}
+use Rattle.query.specs.Saying.{First, Says}
 use Rattle.query.proofs.Laying.{none}
 use Rattle.answer.specs.Steps.{relation}
 

@@ -28,7 +28,7 @@ fn digits_alone(rt: HostRuntime) {
 #[test]
 fn the_digits_come_back(rt: HostRuntime) -> Result<(), Fail> {
     let prefix = Prefix::from_bytes(b"00471")?;
-    assert!(rt; prefix.digits() == b"00471");
+    assert!(rt; prefix.digits() == b"00471".as_slice());
     let empty = Prefix::from_bytes(b"")?;
     assert!(rt; empty.digits().is_empty());
     Ok(())

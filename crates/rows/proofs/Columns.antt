@@ -1,5 +1,5 @@
 -- What the columns of two rows alone tell.
-use Rattle.std.proofs.Common.{◌≡◌, ℕ, ◌+◌, ◌<◌, ◌≤◌, Bool, true, false, not, ◌&&◌, List, map, length, get_or, take, sym, ap, ◌∙◌, subst, ap₂, arith}
+use Rattle.std.proofs.Common.{◌≡◌, ℕ, ◌+◌, ◌<◌, ◌≤◌, Bool, true, false, ◌&&◌, List, map, length, get_or, take, sym, ap, ◌∙◌, subst, ap₂, arith}
 use mathlib.Core.List.Memᴰ
 use Rattle.std.proofs.lemmas.List.{length-map, take_all, take_more_same, get_or-map, get_or_default}
 use Rattle.std.proofs.lemmas.Bool.{and_parts, and_left, not-false, ne_eqb, both_ways, false≢true}

@@ -7,7 +7,6 @@ use Rattle.semantics.specs.Views as semantics
 use Rattle.semantics.specs.Wider.{same_masked}
 use Rattle.semantics.proofs.Masked.{same-masked}
 use Rattle.semantics.proofs.Member.{map_map, map_agree}
-use Rattle.view.specs.declared.masked.Masked.{Masked}
 use Rattle.rows.specs.Rows.{groups_after}
 
 -- a list whose first elements are changed

@@ -1,6 +1,5 @@
-use Rattle.std.proofs.Common.{◌≡◌, length, Some, None, Option, sym, ◌∙◌, arith}
+use Rattle.std.proofs.Common.{◌≡◌, Some, None, sym, ◌∙◌, arith}
 use Rattle.std.proofs.lemmas.List.{get_or_default}
-use Rattle.workspace.specs.declared.block.Block.{Block}
 use Rattle.answer.proofs.Slots.{slot-within}
 use Rattle.answer.proofs.evaluate.part.Goals as goal
 
@@ -14,15 +13,15 @@ returns-in-Some c =
       few = c.requires.sound.few c.args.slot c.in-Some.block e;
     }
 
-pub invariant-of-result : goal.invariant-of-result
-invariant-of-result c = (omega arith, (omega (arith, slot-within c.args.limit c.args.slot c.requires.low.1 c.requires.low.0), tt))
+pub invariant_of-result : goal.invariant_of-result
+invariant_of-result c = record { narrow = omega arith; low = omega (arith, slot-within c.args.limit c.args.slot c.requires.low.1 c.requires.low.0) }
 
 pub returns : goal.returns
 returns c =
     let d = get_or_default c.args.memo.now c.args.slot None c.index-memo-slot.result (omega (arith, c.requires.low.0, c.requires.sound.thirty)) in
-    let e = d ∙ c.in-default.is in
+    let e = d ∙ c.in_default.is in
     record {
-      found = λ b h. absurd (c.in-default.not-Some b (sym d ∙ h));
+      found = λ b h. absurd (c.in_default.not-Some b (sym d ∙ h));
       begins = omega arith;
       few = omega arith;
     }

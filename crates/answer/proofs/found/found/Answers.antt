@@ -7,7 +7,7 @@ use Rattle.answer.specs.Steps.{relation}
 use Rattle.answer.proofs.Finding.{sound_none, held_none, not_too_long, root_is, certain-stay, possible-are}
 use Rattle.answer.proofs.Making.{part-stands}
 use Rattle.answer.proofs.Settling.{other-slot-apart}
-use Rattle.answer.proofs.Slots.{slot-low, slot-within, slot-room, block_room}
+use Rattle.answer.proofs.Slots.{slot-within, slot-room, block_room}
 use Rattle.answer.proofs.found.found.Goals as goal
 
 pub overfull-requires : goal.overfull-requires
@@ -20,18 +20,18 @@ returns-in-Some c columns q over =
 pub returns-then-count-eq0 : goal.returns-then-count-eq0
 returns-then-count-eq0 c columns q over = absurd (omega (arith, c.if-count-eq0.true, over.planned.counted, nodes-some q))
 
-pub returns-in-default-low : goal.returns-in-default-low
-returns-in-default-low c columns q over =
-    let i = c.in-default.ensures.lowest columns q over (held_none columns c.args.task.view.now q c.args.work.now) in
+pub returns-in_default-low : goal.returns-in_default-low
+returns-in_default-low c columns q over =
+    let i = c.in_default.ensures.lowest columns q over (held_none columns c.args.task.view.now q c.args.work.now) in
     let h : c.args.task.plan.now.count - 1 < length (nodes q) = omega (arith, over.planned.counted, nodes-some q) in
-    absurd (not_too_long c.args.task.limit c.args.task.view.now q (c.args.task.plan.now.count - 1) h i.0 (c.in-default-low.ensures.found columns q over h i.1))
+    absurd (not_too_long c.args.task.limit c.args.task.view.now q (c.args.task.plan.now.count - 1) h i.0 (c.in_default-low.ensures.found columns q over h i.1))
 
-pub returns-in-default-high : goal.returns-in-default-high
-returns-in-default-high c columns q over =
-    let i = c.in-default.ensures.lowest columns q over (held_none columns c.args.task.view.now q c.args.work.now) in
+pub returns-in_default-high : goal.returns-in_default-high
+returns-in_default-high c columns q over =
+    let i = c.in_default.ensures.lowest columns q over (held_none columns c.args.task.view.now q c.args.work.now) in
     let h : c.args.task.plan.now.count - 1 < length (nodes q) = omega (arith, over.planned.counted, nodes-some q) in
     let s = c.in-Some-low.ensures.found columns q over h i.1 in
-    absurd (not_too_long c.args.task.limit c.args.task.view.now q (c.args.task.plan.now.count - 1) h i.0 (c.in-default-high.ensures.found columns q over h s.held))
+    absurd (not_too_long c.args.task.limit c.args.task.view.now q (c.args.task.plan.now.count - 1) h i.0 (c.in_default-high.ensures.found columns q over h s.held))
 
 pub difference-possible-requires : goal.difference-possible-requires
 difference-possible-requires c =
@@ -51,7 +51,7 @@ difference-possible-requires c =
 pub returns : goal.returns
 returns c columns q over =
     let root = c.args.task.plan.now.count - 1 in
-    let i = c.in-default.ensures.lowest columns q over (held_none columns c.args.task.view.now q c.args.work.now) in
+    let i = c.in_default.ensures.lowest columns q over (held_none columns c.args.task.view.now q c.args.work.now) in
     let h : root < length (nodes q) = omega (arith, over.planned.counted, nodes-some q) in
     let s = c.in-Some-low.ensures.found columns q over h i.1 in
     let t = c.in-Some-high.ensures.found columns q over h s.held in

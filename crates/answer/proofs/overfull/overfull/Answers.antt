@@ -13,14 +13,14 @@ high-requires c = record {
   lower = omega (arith, c.loop-number-test.true, c.args.task.plan.now.few);
 }
 
-pub returns-in-default : goal.returns-in-default
-returns-in-default c = record {
+pub returns-in_default : goal.returns-in_default
+returns-in_default c = record {
   sound = c.high.ensures.sound;
   few = omega (arith, c.loop-number-test.true, c.args.task.plan.now.few);
   lowest = λ columns q over held.
       let i = c.loop-number.invariant.1 columns q over held in
       let h : c.loop-number.number < length (nodes q) = omega (arith, c.loop-number-test.true, over.planned.counted) in
-      (passed_stop c.args.task.limit c.args.task.view.now q c.loop-number.number h i.0 (c.in-default.ensures.found columns q over h i.1), tt);
+      (passed_stop c.args.task.limit c.args.task.view.now q c.loop-number.number h i.0 (c.in_default.ensures.found columns q over h i.1), tt);
 }
 
 pub loop-number-preserved : goal.loop-number-preserved

@@ -1,4 +1,4 @@
-use Rattle.std.proofs.Common.{◌≡◌, map, ap, ◌∙◌, arith}
+use Rattle.std.proofs.Common.{map, ◌∙◌, arith}
 use Rattle.view.specs.Views.{masked_of}
 use Rattle.workspace.proofs.Reading.{row-wide}
 use Rattle.answer.specs.Rows.{row_of}

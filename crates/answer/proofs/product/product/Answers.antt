@@ -1,4 +1,4 @@
-use Rattle.std.proofs.Common.{◌≡◌, sym, refl, ◌∙◌, subst, arith}
+use Rattle.std.proofs.Common.{sym, refl, ◌∙◌, subst, arith}
 use Rattle.workspace.proofs.Reading.{row-short, row-wide}
 use Rattle.answer.specs.Places.{Apart}
 use Rattle.answer.specs.Rows.{row_of}

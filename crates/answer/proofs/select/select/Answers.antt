@@ -8,7 +8,7 @@ use Rattle.answer.specs.Bounds.{keeps}
 use Rattle.answer.specs.Rows.{row_of}
 use Rattle.answer.proofs.Filtering.{Formed, selects, keeping_none, keeping_row, keeping_on, keeping_off, keeping_placed, keeping_all}
 use Rattle.answer.proofs.select.select.Goals as goal
-use Rattle.answer.proofs.select.select.Goals.{then_Keeps, else-keeps}
+use Rattle.answer.proofs.select.select.Goals.{then-keeps, else-keeps}
 
 pub loop-number-init : goal.loop-number-init
 loop-number-init c =
@@ -36,7 +36,7 @@ loop-number-preserved c =
     let same : (k : K) → p k x ≡ keeps c.args.bound (truth_of c.truth.result)
     = λ k. ap (keeps c.args.bound) (ap (truth k.1.0) (sym c.cells.ensures.row) ∙ sym (c.truth.ensures k.0 k.1.0 k.1.1)) in
     elim c.if-keeps.branch [
-      | then_Keeps w ↦
+      | then-keeps w ↦
           rw (w.work-is, w.to-is)
           (keeping_on K p c.args.limit c.args.first c.args.from c.args.work.now c.loop-number.work c.loop-number.to c.loop-number.number c.loop-number.invariant x c.loop-number-test.true is
           (λ k. same k ∙ sym w.if-keeps.ensures) _ w.push-to.result w.push-to.new.work (map masked_of w.cells-then-keeps.result.now) w.push-to.ensures w.cells-then-keeps.ensures.row (record { at = refl; many = refl; wide = refl }))

@@ -1,8 +1,8 @@
-use Rattle.std.proofs.Common.{◌≡◌, ◌<◌, sym, ap, ◌∙◌, subst}
+use Rattle.std.proofs.Common.{◌<◌, sym, ap, ◌∙◌, subst}
 use Rattle.semantics.specs.Queries.{product, union, difference}
 use Rattle.query.specs.Saying.{Says}
 use Rattle.semantics.specs.Records.{record_of}
-use Rattle.answer.specs.Steps.{relation, StepOf, Lower}
+use Rattle.answer.specs.Steps.{relation}
 use Rattle.answer.proofs.Steps.{is-table, is-select, is-project, is-product, is_union, is-difference}
 use Rattle.answer.proofs.task.with_parts.Goals as goal
 

@@ -31,16 +31,16 @@ insert-requires c =
       wide = omega (arith, w, p.wide, c.requires.wide, c.cells.ensures.wide, c.of-row.ensures.wide);
     }
 
-pub returns-in-err-to : goal.returns-in-err-to
-returns-in-err-to c =
+pub returns-in_err-to : goal.returns-in_err-to
+returns-in_err-to c =
     let a = c.args in
     let l = c.loop-number in
     let src = block_rows a.work.now a.from in
     let n = length_rows a.work.now a.from in
-    rw c.from-residual.ensures
+    rw c.from_residual.ensures
     (λ rows e. gathered-full a.limit a.to.first a.to.width a.work.now l.work l.to rows src l.number (l.invariant.1 rows e) c.insert.new.work (map masked_of c.cells.result.now) (omega arith)
     (c.cells.ensures.row ∙ c.of-row.ensures.row ∙ c.row.ensures ∙ row_kept a.to.first a.limit a.work.now l.work a.from l.invariant.0.untouched c.requires.apart l.number)
-    c.in-err-to.ensures)
+    c.in_err-to.ensures)
 
 pub loop-number-preserved : goal.loop-number-preserved
 loop-number-preserved c =
@@ -48,11 +48,11 @@ loop-number-preserved c =
     let l = c.loop-number in
     let src = block_rows a.work.now a.from in
     let n = length_rows a.work.now a.from in
-    let m = c.in-ok-to.ensures in (
-      placed-after a.limit a.to.first a.to.width a.work.now l.work c.insert.new.work l.to l.invariant.0 c.in-ok-to.to m.0,
+    let m = c.in_ok-to.ensures in (
+      placed-after a.limit a.to.first a.to.width a.work.now l.work c.insert.new.work l.to l.invariant.0 c.in_ok-to.to m.0,
       λ rows e. gathered-more a.limit a.to.first a.to.width a.work.now l.work l.to rows src l.number (l.invariant.1 rows e) c.insert.new.work (map masked_of c.cells.result.now) (omega arith)
           (c.cells.ensures.row ∙ c.of-row.ensures.row ∙ c.row.ensures ∙ row_kept a.to.first a.limit a.work.now l.work a.from l.invariant.0.untouched c.requires.apart l.number)
-          c.in-ok-to.to m,
+          c.in_ok-to.to m,
     )
 
 pub returns : goal.returns

@@ -23,4 +23,4 @@ loop-term-preserved c e d h =
 pub returns : goal.returns
 returns c e d h =
     c.pop.ensures.answer
-    ∙ known-end e d (map masked_of c.args.row.now) (stack_of c.loop-term.truths) c.loop-term.rest.now (c.loop-term.invariant e d h) (c.in-default.ensures e)
+    ∙ known-end e d (map masked_of c.args.row.now) (stack_of c.loop-term.truths) c.loop-term.rest.now (c.loop-term.invariant e d h) (c.in_default.ensures e)

@@ -5,5 +5,5 @@ use Rattle.std.proofs.lemmas.Bool.Decides.{Decides-eqb}
 
 pub returns : goal.returns
 returns c =
-    begins-is c.args.digits.now c.args.front.now c.starts-with.result
-    (starts_is Decides-eqb c.args.digits.now c.args.front.now c.starts-with.result c.starts-with.ensures.value)
+    begins-is c.args.digits.now c.args.front.now c.starts_with.result
+    (starts_is Decides-eqb c.args.digits.now c.args.front.now c.starts_with.result c.starts_with.ensures.value)

@@ -6,4 +6,4 @@ use Rattle.reply.proofs.reply.put_counts.Goals as goal
 pub returns : goal.returns
 returns c =
     put-more (record_bytes 0x20 (two_bytes c.args.certain ++ two_bytes c.args.possible)) (omega arith)
-    (put_then (omega arith) c.put-head-head.ensures c.put-two-next.ensures) c.put-two.ensures refl
+    (put_then (omega arith) c.put_head-head.ensures c.put_two-next.ensures) c.put_two.ensures refl

@@ -10,8 +10,8 @@ use Rattle.reply.proofs.reply.put_rows.Goals as goal
 pub loop-row-init : goal.loop-row-init
 loop-row-init c = put-none c.args.out.now c.args.at
 
-pub put-row-next-requires : goal.put-row-next-requires
-put-row-next-requires c =
+pub put_row-next-requires : goal.put_row-next-requires
+put_row-next-requires c =
     let a = c.args in
     let f = rows_fit_lem a.work.now a.block a.kind c.row.result.now c.loop-row.row c.loop-row-test.true c.row.ensures in
     record {
@@ -23,7 +23,7 @@ pub loop-row-preserved : goal.loop-row-preserved
 loop-row-preserved c =
     let a = c.args in
     let k = c.loop-row.row in
-    put-more (flat_map (row_bytes a.kind) (take (k + 1) (block_rows a.work.now a.block))) (omega arith) c.loop-row.invariant c.put-row-next.ensures
+    put-more (flat_map (row_bytes a.kind) (take (k + 1) (block_rows a.work.now a.block))) (omega arith) c.loop-row.invariant c.put_row-next.ensures
     (rows_step a.work.now a.block a.kind c.row.result.now k c.loop-row-test.true c.row.ensures)
 
 pub returns : goal.returns

@@ -7,8 +7,8 @@ use Rattle.workspace.specs.Blocks.{block_rows}
 use Rattle.reply.proofs.BlockRows.{row-narrow, rows_step, rows_all}
 use Rattle.reply.proofs.reply.rows_size.Goals as goal
 
-pub row-size-size-requires : goal.row-size-size-requires
-row-size-size-requires c =
+pub row_size-size-requires : goal.row_size-size-requires
+row_size-size-requires c =
     row-narrow c.args.work.now c.args.block c.row.result.now c.loop-row.row c.loop-row-test.true c.row.ensures
 
 pub loop-row-preserved : goal.loop-row-preserved
@@ -20,8 +20,8 @@ loop-row-preserved c =
       λ kind.
           let s = ap length (rows_step work block kind row k c.loop-row-test.true c.row.ensures) in
           let l = length-append (flat_map (row_bytes kind) (take k (block_rows work block))) (row_bytes kind (map masked_of row)) in
-          omega (arith, c.loop-row.invariant.0 kind, c.row-size-size.ensures.is kind),
-      omega (arith, c.loop-row.invariant.1, c.row-size-size.ensures.low),
+          omega (arith, c.loop-row.invariant.0 kind, c.row_size-size.ensures.is kind),
+      omega (arith, c.loop-row.invariant.1, c.row_size-size.ensures.low),
     )
 
 pub returns : goal.returns

@@ -6,4 +6,4 @@ use Rattle.reply.proofs.write.put_cell.Goals as goal
 
 pub returns-in-Pseudonym : goal.returns-in-Pseudonym
 returns-in-Pseudonym c =
-    put-more (cell_bytes (masked_of c.args.cell.now)) (omega arith) c.put-next.ensures c.put-two.ensures (ap (λ v. cell_bytes (masked_of v)) c.in-Pseudonym.is)
+    put-more (cell_bytes (masked_of c.args.cell.now)) (omega arith) c.put-next.ensures c.put_two.ensures (ap (λ v. cell_bytes (masked_of v)) c.in-Pseudonym.is)

@@ -6,7 +6,7 @@ use Rattle.reply.proofs.write.put_value.Goals as goal
 
 pub returns-in-Number : goal.returns-in-Number
 returns-in-Number c =
-    put-more (value_bytes (cell_value c.args.value.now)) (omega arith) c.put-next.ensures c.put-four.ensures (ap (λ v. value_bytes (cell_value v)) c.in-Number.is)
+    put-more (value_bytes (cell_value c.args.value.now)) (omega arith) c.put-next.ensures c.put_four.ensures (ap (λ v. value_bytes (cell_value v)) c.in-Number.is)
 
 pub returns-in-Prefix : goal.returns-in-Prefix
 returns-in-Prefix c =

@@ -14,7 +14,7 @@ returns-in-Some c =
 
 pub returns-then-a-le8 : goal.returns-then-a-le8
 returns-then-a-le8 c =
-    let test = λ (h : length c.args.a.now ≤ 8). c.groups-agree.ensures in
+    let test = λ (h : length c.args.a.now ≤ 8). c.groups_agree.ensures in
     record { test = test; means = answer-means c.args.a.now c.args.b.now _ test }
 
 pub returns-else-a-le8 : goal.returns-else-a-le8

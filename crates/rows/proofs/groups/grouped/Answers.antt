@@ -8,8 +8,8 @@ returns c =
     let cells = c.args.cells.now in
     let width = c.args.width in
     let l = length-take-le (width + width - 0) cells (omega arith) in
-    let long : length c.unite-columns.new.groups ≡ width + width - 0 = omega (arith, c.unite-columns.auto.groups) in
+    let long : length c.unite_columns.new.groups ≡ width + width - 0 = omega (arith, c.unite_columns.auto.groups) in
     record {
-      united = front-grouped c.unite-columns.new.groups _ cells width (width + width - 0) (omega arith) (omega arith) c.unite-columns.ensures;
-      sixteen = front_long c.unite-columns.new.groups cells (width + width - 0) long (omega arith) ∙ c.told-cells;
+      united = front-grouped c.unite_columns.new.groups _ cells width (width + width - 0) (omega arith) (omega arith) c.unite_columns.ensures;
+      sixteen = front_long c.unite_columns.new.groups cells (width + width - 0) long (omega arith) ∙ c.told-cells;
     }

@@ -5,6 +5,6 @@ use Rattle.rows.proofs.groups.groups_agree.Goals as goal
 pub returns : goal.returns
 returns c =
     let width = length c.args.a.now in
-    c.all-agree.ensures
+    c.all_agree.ensures
     ∙ rows_agree c.args.a.now c.args.b.now c.both-cells.result c.grouped-groups.result width (width + width - 0) refl (sym c.requires.1) (omega arith)
     c.both-cells.ensures.cells c.grouped-groups.ensures.united

@@ -4,5 +4,5 @@ use Rattle.rows.proofs.groups.put.Goals as goal
 
 pub returns : goal.returns
 returns c =
-    put-over c.args.cells.now c.args.row.now c.copy-from-slice.new.self c.args.start (c.args.start + length c.args.row.now - c.args.start)
-    c.copy-from-slice.ensures.after (omega arith)
+    put-over c.args.cells.now c.args.row.now c.copy_from_slice.new.self c.args.start (c.args.start + length c.args.row.now - c.args.start)
+    c.copy_from_slice.ensures.after (omega arith)

@@ -1,4 +1,4 @@
-use Rattle.std.proofs.Common.{◌≡◌, true, false, [], map, get_or, sym, ap, ◌∙◌, arith}
+use Rattle.std.proofs.Common.{[], map, sym, ap, ◌∙◌, arith}
 use Rattle.semantics.proofs.Some.{some-on, some-here, some_end}
 use Rattle.view.specs.Views.{masked_of}
 use Rattle.workspace.specs.Blocks.{block_rows}
@@ -6,19 +6,19 @@ use Rattle.workspace.proofs.Reading.{length_rows}
 use Rattle.answer.specs.Bounds.{takes_out}
 use Rattle.answer.proofs.bound.Bound.some_takes_out.Goals as goal
 
-pub returns-then-takes-out : goal.returns-then-takes-out
-returns-then-takes-out c =
+pub returns-then-takes_out : goal.returns-then-takes_out
+returns-then-takes_out c =
     let rows = block_rows c.args.work.now c.args.block in
     let l = length_rows c.args.work.now c.args.block in
     some-here (takes_out c.args.self (map masked_of c.args.row.now)) rows c.loop-r.r [] (omega arith)
-    (sym (c.if-takes-out.ensures ∙ ap (takes_out c.args.self (map masked_of c.args.row.now)) c.row.ensures)) c.loop-r.invariant
+    (sym (c.if-takes_out.ensures ∙ ap (takes_out c.args.self (map masked_of c.args.row.now)) c.row.ensures)) c.loop-r.invariant
 
 pub loop-r-preserved : goal.loop-r-preserved
 loop-r-preserved c =
     let rows = block_rows c.args.work.now c.args.block in
     let l = length_rows c.args.work.now c.args.block in
     some-on (takes_out c.args.self (map masked_of c.args.row.now)) rows c.loop-r.r [] (omega arith)
-    (sym (c.if-takes-out.ensures ∙ ap (takes_out c.args.self (map masked_of c.args.row.now)) c.row.ensures)) c.loop-r.invariant
+    (sym (c.if-takes_out.ensures ∙ ap (takes_out c.args.self (map masked_of c.args.row.now)) c.row.ensures)) c.loop-r.invariant
 
 pub returns : goal.returns
 returns c =

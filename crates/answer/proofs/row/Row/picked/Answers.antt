@@ -1,4 +1,4 @@
-use Rattle.std.proofs.Common.{◌≡◌, map, get_or, take, ap, ◌∙◌, arith}
+use Rattle.std.proofs.Common.{map, ap, ◌∙◌, arith}
 use Rattle.std.proofs.lemmas.List.{map_more, take_all}
 use Rattle.semantics.specs.Truths.{cell_at}
 use Rattle.view.specs.Views.{masked_of}
@@ -11,7 +11,7 @@ loop-column-preserved c =
     let more = map_more (cell_at cells) columns c.loop-column.column-index 0 c.loop-column-test.true in
     let inv = c.loop-column.invariant.0 in
     let row = c.append.ensures.row in
-    let cell = c.cell-at.ensures in
+    let cell = c.cell_at.ensures in
     (cc, omega (arith, c.append.ensures.wide, c.loop-column.invariant.1))
 
 pub returns : goal.returns

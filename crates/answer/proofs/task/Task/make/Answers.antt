@@ -1,7 +1,6 @@
 use Rattle.std.proofs.Common.{◌≡◌, ◌*◌, ◌<◌, true, length, sym, refl, ap, ◌∙◌, subst, arith}
 use Rattle.semantics.specs.Queries.{nodes, proper}
-use Rattle.view.specs.Views.{view_tables}
-use Rattle.answer.specs.Bounds.{other, slot}
+use Rattle.answer.specs.Bounds.{slot}
 use Rattle.answer.specs.Memos.{Ready, There}
 use Rattle.answer.specs.Steps.{relation, StepOf, Lower}
 use Rattle.answer.proofs.Making.{makes-placed, part-stands, table-made, select-made, project-made, product-made, union-made, difference-made}
