@@ -68,14 +68,14 @@ module _ (e : Refusal) where
   prefix-form (o ∷ (l ∷ body)) h = refl
 
   -- the digits as the slice is cut
-  pub prefix-said : (body : List ℕ) (op : Operator) → 2 ≤ length body → Some op ≡ operator_from (get_or body 0 0) → length (take (length body - 2) (drop 2 body)) ≤ 8 → every is_digit (take (length body - 2) (drop 2 body)) ≡ true → comparison_form e (prefix_side e) body ≡ done (comparing (by_prefix op (get_or body 1 0) (take (length body - 2) (drop 2 body))))
-  prefix-said body op h o l d =
+  pub prefix_said : (body : List ℕ) (op : Operator) → 2 ≤ length body → Some op ≡ operator_from (get_or body 0 0) → length (take (length body - 2) (drop 2 body)) ≤ 8 → every is_digit (take (length body - 2) (drop 2 body)) ≡ true → comparison_form e (prefix_side e) body ≡ done (comparing (by_prefix op (get_or body 1 0) (take (length body - 2) (drop 2 body))))
+  prefix_said body op h o l d =
       let b : take (length body - 2) (drop 2 body) ≡ drop 2 body = take_rest body 2 in
       let t : (leb (length (drop 2 body)) 8 && every is_digit (drop 2 body)) ≡ true = and_from _ _ (le-leb _ _ (rw b at l)) (rw b at d) in
       rw b (prefix-form body h ∙ rw (sym o, t))
 
-  pub prefix-long : (body : List ℕ) (op : Operator) → 2 ≤ length body → Some op ≡ operator_from (get_or body 0 0) → 8 < length (take (length body - 2) (drop 2 body)) → comparison_form e (prefix_side e) body ≡ refuse e
-  prefix-long body op h o l =
+  pub prefix_long : (body : List ℕ) (op : Operator) → 2 ≤ length body → Some op ≡ operator_from (get_or body 0 0) → 8 < length (take (length body - 2) (drop 2 body)) → comparison_form e (prefix_side e) body ≡ refuse e
+  prefix_long body op h o l =
       let b : take (length body - 2) (drop 2 body) ≡ drop 2 body = take_rest body 2 in
       let t : (leb (length (drop 2 body)) 8 && every is_digit (drop 2 body)) ≡ false = and_left _ _ (lt-leb _ _ (rw b at l)) in
       prefix-form body h ∙ rw (sym o, t)

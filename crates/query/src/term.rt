@@ -53,6 +53,7 @@ fn by_number(body: &[u8]) -> Option<Term<'_>>
 }
 
 /// A comparison with a prefix, whose digits are the rest of the body.
+#[tactic(auto, using(crate::proofs::Forms::prefix_said, crate::proofs::Forms::prefix_long, crate::proofs::Forms::prefix_digitless))]
 fn by_prefix(body: &[u8]) -> Option<Term<'_>>
     ensures { (e : Refusal) → TermIs e result (comparison_form e (prefix_side e) body.now) }
 {
@@ -154,6 +155,7 @@ impl Term<'_> {
     }
 
     /// How many conditions are on the stack after the term, if there are enough before it.
+    #[tactic(auto, using(crate::proofs::Depths::joins, crate::proofs::Depths::negates, crate::proofs::Depths::compares))]
     pub(crate) fn depth_after(self, depth: usize) -> Option<usize>
         requires { depth < 1000 }
         ensures { (e : Refusal) (stack : List Condition) → length stack ≡ depth → DepthIs e result (combined e (term_of self.entry) stack) }
