@@ -93,3 +93,7 @@ at-parts P ns ms cells others a b h = subst (λ x. P x others) (sym a) (subst (P
 -- a part of 8
 pub part-eight : {X : Type 0} (xs : List X) (at : ℕ) → at + 8 ≤ length xs → length (take (at + 8 - at) (drop at xs)) ≡ 8
 part-eight xs at h = simp (length-take, length-drop) (omega arith)
+
+-- the 8 cells of a slot
+pub slot_whole : {X : Type 0} (xs : List X) (at : ℕ) → at + 8 ≤ length xs → length (take 8 (drop at xs)) ≡ 8
+slot_whole xs at h = simp (length-take, length-drop) (omega arith)

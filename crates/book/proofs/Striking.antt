@@ -30,13 +30,17 @@ pub record Moved (t row i : ℕ) (old new : List Cell) : Type 0 where
   pub move : (r c : ℕ) → c < 8 → row ≤ r → r < i → cell_at new t r c ≡ cell_at old t (r + 1) c
 
 -- the 8 cells of the next row are copied down
-module _ (t row i : ℕ) (old new after : List Cell) (in' : t < 4) (from : row ≤ i) (size' : length after ≡ length new)
-    (here : (k : ℕ) (d : Cell) → row_start t i ≤ k → k < row_start t i + 8 → get_or after k d ≡ get_or new (row_start t i + 32 + (k - row_start t i)) d)
-    (below : (k : ℕ) (d : Cell) → k < row_start t i → get_or after k d ≡ get_or new k d)
-    (above : (k : ℕ) (d : Cell) → row_start t i + 8 ≤ k → get_or after k d ≡ get_or new k d)
+module _ (t row i at : ℕ) (old new after : List Cell) (in' : t < 4) (from : row ≤ i) (start : at ≡ row_start t i) (size' : length after ≡ length new)
+    (here : (k : ℕ) (d : Cell) → at ≤ k → k < at + 8 → get_or after k d ≡ get_or new (at + 32 + (k - at)) d)
+    (below : (k : ℕ) (d : Cell) → k < at → get_or after k d ≡ get_or new k d)
+    (above : (k : ℕ) (d : Cell) → at + 8 ≤ k → get_or after k d ≡ get_or new k d)
     (m : Moved t row i old new) where
   same : (u r c : ℕ) → u < 4 → c < 8 → (u ≢ t) ⊎ (r ≢ i) → cell_at after u r c ≡ cell_at new u r c
-  same u r c a b d = ⊎_elim (below (place u r c) (Number 0)) (above (place u r c) (Number 0)) (apart t i u r c in' a b d)
+  same u r c a b d =
+      ⊎_elim
+      (λ (l : place u r c < row_start t i). below (place u r c) (Number 0) (omega arith))
+      (λ (g : row_start t i + 8 ≤ place u r c). above (place u r c) (Number 0) (omega arith))
+      (apart t i u r c in' a b d)
 
   next : (c : ℕ) → c < 8 → cell_at after t i c ≡ cell_at new t (i + 1) c
   next c b = here (place t i c) (Number 0) (omega arith) (omega arith) ∙ ap (λ p. get_or new p (Number 0)) (omega arith)

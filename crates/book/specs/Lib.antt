@@ -1,3 +1,4 @@
 pub mod Columns
 pub mod Layout
+pub mod Slots
 pub mod Books

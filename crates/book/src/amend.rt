@@ -6,18 +6,18 @@ ghost use Rattle.book.specs.Books.{book_model, memory, UnusedAreZero};
 ghost use Rattle.book.specs.Layout.{place};
 
 use crate::book::{Book, Rows};
+use crate::slot::Slot;
 use cells::Cell;
 use semantics::Refusal;
 
 impl Rows<'_> {
     /// Writes one cell of a row.
-    fn put(&mut self, table: usize, row: usize, column: usize, cell: Cell)
-        requires { (table < 4) × ((row < limit_of (length self.old.cells.now)) × (column < 8)) }
+    fn put(&mut self, at: Slot, column: usize, cell: Cell)
+        requires { (at.row < limit_of (length self.old.cells.now)) × (column < 8) }
         ensures counts { self.new.counts ≡ self.old.counts }
-        ensures cells { self.new.cells.now ≡ slice_set self.old.cells.now (place table row column) cell }
+        ensures cells { self.new.cells.now ≡ slice_set self.old.cells.now (place at.table at.row column) cell }
     {
-        let start = 32 * row + 8 * table;
-        self.cells[start + column] = cell;
+        self.cells[at.start() + column] = cell;
     }
 }
 
@@ -48,7 +48,7 @@ impl Book<'_> {
         requires { may_amend (book_model self.old) table row column (cell_value cell) ≡ done tt }
         ensures { amended (book_model self.old) table row column (cell_value cell) ≡ done (book_model self.new) }
     {
-        self.rows.put(table, row, column, cell);
+        self.rows.put(Slot { table, row }, column, cell);
     }
 
     /// Replaces one cell of a row.

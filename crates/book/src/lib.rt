@@ -9,8 +9,10 @@ mod declare;
 mod draft;
 mod open;
 mod read;
+mod slot;
 mod store;
 mod strike;
 
 pub use book::Book;
 pub use draft::Draft;
+pub use slot::Slot;

@@ -4,22 +4,11 @@ ghost use Rattle.cells.specs.Cells.{cell_value};
 ghost use Rattle.book.specs.Books.{book_model, RowAt};
 ghost use Rattle.book.specs.Layout.{row_start};
 
-use crate::book::{Book, Rows};
+use crate::book::Book;
 use crate::declare::columns_of;
+use crate::slot::Slot;
 use cells::Cell;
 use semantics::Column;
-
-impl Rows<'_> {
-    /// The first `width` cells of a row.
-    fn part(&self, table: usize, row: usize, width: usize) -> &[Cell]
-        requires { (table < 4) × ((row < limit_of (length self.now.cells.now)) × (width ≤ 8)) }
-        ensures { result.now ≡ take width (drop (row_start table row) self.now.cells.now) }
-    {
-        let start = 32 * row + 8 * table;
-        let end = start + width;
-        &self.cells[start..end]
-    }
-}
 
 impl Book<'_> {
     /// How many rows each table may have.
@@ -51,7 +40,8 @@ impl Book<'_> {
         requires { row < length (rows_of (book_model self.now) table) }
         ensures { map cell_value result.now ≡ slice_index_or (rows_of (book_model self.now) table) row [] }
     {
-        self.rows.part(table, row, self.tables[table].width)
+        let slot = Slot { table, row };
+        &slot.cells(self.rows.cells)[..self.tables[table].width]
     }
 
     /// The cells of a row, where there is one of this number.

@@ -9,6 +9,7 @@ ghost use Rattle.book.specs.Layout.{row_start};
 
 use crate::book::{Book, Rows};
 use crate::columns::Columns;
+use crate::slot::Slot;
 use cells::Cell;
 use semantics::Refusal;
 
@@ -34,11 +35,14 @@ impl Rows<'_> {
         ensures counts { self.new.counts ≡ slice_set self.old.counts table (slice_index self.old.counts table + 1) }
         ensures cells { self.new.cells.now ≡ paste self.old.cells.now (row_start table (slice_index self.old.counts table)) row.now (length row.now) }
     {
-        let count = self.counts[table];
-        let start = 32 * count + 8 * table;
+        let slot = Slot {
+            table,
+            row: self.counts[table],
+        };
+        let start = slot.start();
         let end = start + row.len();
         self.cells[start..end].copy_from_slice(row);
-        self.counts[table] = count + 1;
+        self.counts[table] += 1;
     }
 }
 

@@ -5,26 +5,27 @@ ghost use Rattle.book.specs.Books.{book_model, memory, UnusedAreZero};
 ghost use Rattle.book.specs.Layout.{Removed};
 
 use crate::book::{Book, Rows};
+use crate::slot::Slot;
 use cells::Cell;
 use semantics::Refusal;
 
 impl Rows<'_> {
     /// Takes a row away: later rows of its table move up by one, and the last row's cells are cleared.
-    fn remove(&mut self, table: usize, row: usize)
-        requires { (table < 4) × ((row < slice_index self.old.counts table) × (slice_index self.old.counts table ≤ limit_of (length self.old.cells.now))) }
-        ensures counts { self.new.counts ≡ slice_set self.old.counts table (slice_index self.old.counts table - 1) }
-        ensures cells { Removed table row (slice_index self.old.counts table - 1) self.old.cells.now self.new.cells.now }
+    fn remove(&mut self, at: Slot)
+        requires { (at.row < slice_index self.old.counts at.table) × (slice_index self.old.counts at.table ≤ limit_of (length self.old.cells.now)) }
+        ensures counts { self.new.counts ≡ slice_set self.old.counts at.table (slice_index self.old.counts at.table - 1) }
+        ensures cells { Removed at.table at.row (slice_index self.old.counts at.table - 1) self.old.cells.now self.new.cells.now }
     {
+        let Slot { table, row } = at;
         let last = self.counts[table] - 1;
-        let base = 8 * table;
-        for r in row..last {
-            let start = 32 * r + base;
+        // By its number: no method of the library moves parts that lie apart.
+        for row in row..last {
+            let start = Slot { table, row }.start();
             let next = start + 32;
             self.cells.copy_within(next..next + 8, start);
         }
-        let start = 32 * last + base;
-        let end = start + 8;
-        self.cells[start..end].fill(Cell::Number(0));
+        let start = Slot { table, row: last }.start();
+        self.cells[start..start + 8].fill(Cell::Number(0));
         self.counts[table] = last;
     }
 }
@@ -48,7 +49,7 @@ impl Book<'_> {
         requires { may_strike (book_model self.old) table row ≡ done tt }
         ensures { struck (book_model self.old) table row ≡ done (book_model self.new) }
     {
-        self.rows.remove(table, row);
+        self.rows.remove(Slot { table, row });
     }
 
     /// Strikes a row; later rows of its table move up by one.

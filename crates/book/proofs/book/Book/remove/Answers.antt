@@ -1,10 +1,13 @@
-use Rattle.std.proofs.Common.{sym, ap}
+use Rattle.std.proofs.Common.{sym, ap, arith}
 use Rattle.semantics.specs.Outcomes.{done}
 use Rattle.book.proofs.Next.{strike_fits, strike_next}
 use Rattle.book.proofs.book.Book.remove.Goals as goal
 
+pub invariant_of-remove : goal.invariant_of-remove
+invariant_of-remove c = let k = strike_fits c.args.self.now c.args.table c.args.row c.requires in record { four = k.0; low = omega arith }
+
 pub remove-requires : goal.remove-requires
-remove-requires c = let k = strike_fits c.args.self.now c.args.table c.args.row c.requires in (k.0, (k.1, k.2))
+remove-requires c = let k = strike_fits c.args.self.now c.args.table c.args.row c.requires in (k.1, k.2)
 
 pub invariant_of-self : goal.invariant_of-self
 invariant_of-self c =

@@ -1,10 +1,13 @@
-use Rattle.std.proofs.Common.{sym, ap}
+use Rattle.std.proofs.Common.{sym, ap, arith}
 use Rattle.semantics.specs.Outcomes.{done}
 use Rattle.book.proofs.Next.{amend_fits, amend_next}
 use Rattle.book.proofs.book.Book.replace.Goals as goal
 
+pub invariant_of-put : goal.invariant_of-put
+invariant_of-put c = let k = amend_fits c.args.self.now c.args.table c.args.row c.args.column c.args.cell c.requires in record { four = k.0; low = omega arith }
+
 pub put-requires : goal.put-requires
-put-requires c = let k = amend_fits c.args.self.now c.args.table c.args.row c.args.column c.args.cell c.requires in (k.0, (k.3, k.4))
+put-requires c = let k = amend_fits c.args.self.now c.args.table c.args.row c.args.column c.args.cell c.requires in (k.3, k.4)
 
 pub invariant_of-self : goal.invariant_of-self
 invariant_of-self c =

@@ -1,38 +1,39 @@
 use Rattle.std.proofs.Common.{◌≡◌, ◌+◌, ◌-◌, get_or, set, replicate, sym, refl, ap, ◌∙◌, subst, arith}
+use lib.Seq.{paste}
 use Rattle.std.proofs.lemmas.Slice.{put_mid-paste}
 use Rattle.cells.specs.declared.cell.Cell.TheVariants.{Number}
-use Rattle.book.specs.Layout.{row_start, Removed}
+use Rattle.book.specs.Layout.{Removed}
 use Rattle.book.proofs.Memory.{part-eight}
 use Rattle.book.proofs.Striking.{Moved, moved_more, removed_is}
 use Rattle.book.proofs.book.Rows.remove.Goals as goal
 
 pub copy_within-requires : goal.copy_within-requires
 copy_within-requires c =
-    let z = c.loop-r.invariant.1.size in
+    let z = c.loop-row.invariant.1.size in
     record { start_le_end = omega arith; in_bounds = omega arith; dest_in_bounds = omega arith; not_exhausted = tt }
 
-pub loop-r-preserved : goal.loop-r-preserved
-loop-r-preserved c =
+pub loop-row-preserved : goal.loop-row-preserved
+loop-row-preserved c =
     let p = c.copy_within.ensures.by_index in (
-      c.loop-r.invariant.0,
-      moved_more c.args.table c.args.row c.loop-r.r c.args.self.now.cells.now c.loop-r.self.cells.now c.copy_within.new.self (omega arith) c.loop-r.auto.r c.copy_within.ensures.len
-          (λ k d a b. p.0 k d a (omega arith)) (λ k d a. p.1 k d a) (λ k d a. p.2 k d (omega arith)) c.loop-r.invariant.1,
+      c.loop-row.invariant.0,
+      moved_more c.args.at.table c.args.at.row c.loop-row.row c.start-start.result c.args.self.now.cells.now c.loop-row.self.cells.now c.copy_within.new.self (omega arith) c.loop-row.auto.row c.start-start.ensures c.copy_within.ensures.len
+          (λ k d a b. p.0 k d a (omega arith)) (λ k d a. p.1 k d a) (λ k d a. p.2 k d (omega arith)) c.loop-row.invariant.1,
     )
 
 pub returns : goal.returns
 returns c =
     let s = c.args.self.now in
-    let t = c.args.table in
+    let t = c.args.at.table in
     let n = get_or s.counts t 0 - 1 in
-    let at = row_start t n in
-    let moved = c.loop-r.self.cells.now in
-    let z = c.loop-r.invariant.1.size in
-    let e : c.loop-r.r ≡ n = omega (arith, c.loop-r.auto.r-end (omega arith)) in
+    let at = c.start-start-2.result in
+    let moved = c.loop-row.self.cells.now in
+    let z = c.loop-row.invariant.1.size in
+    let e : c.loop-row.row ≡ n = omega (arith, c.loop-row.auto.row-end (omega arith)) in
     record {
-      counts = ap (λ ns. set ns t n) c.loop-r.invariant.0;
+      counts = ap (λ ns. set ns t n) c.loop-row.invariant.0;
       cells =
-          subst (Removed t c.args.row n s.cells.now)
-          (sym (put_mid-paste at (at + 8 - at) moved c.fill.new.self (replicate 8 (Number 0)) 8 (c.fill.ensures.after (λ y e. e) ∙ ap (λ m. replicate m (Number 0)) (part-eight moved at (omega arith))) (omega arith) refl))
-          (removed_is t c.args.row n s.cells.now moved (omega arith) (omega arith) (rw z (omega arith))
-          (subst (λ i. Moved t c.args.row i s.cells.now moved) e c.loop-r.invariant.1));
+          subst (Removed t c.args.at.row n s.cells.now)
+          (sym (put_mid-paste at (at + 8 - at) moved c.fill.new.self (replicate 8 (Number 0)) 8 (c.fill.ensures.after (λ y e. e) ∙ ap (λ m. replicate m (Number 0)) (part-eight moved at (omega arith))) (omega arith) refl ∙ ap (λ k. paste moved k (replicate 8 (Number 0)) 8) c.start-start-2.ensures))
+          (removed_is t c.args.at.row n s.cells.now moved (omega arith) (omega arith) (rw z (omega arith))
+          (subst (λ i. Moved t c.args.at.row i s.cells.now moved) e c.loop-row.invariant.1));
     }

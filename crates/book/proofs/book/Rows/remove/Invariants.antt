@@ -3,7 +3,7 @@ use Rattle.book.proofs.Striking.{Moved}
 use Rattle.book.proofs.book.Rows.remove.Given as goal
 
 -- the rows before this one have moved
-abbrev pub invariant-loop-r : goal.invariant-loop-r
-invariant-loop-r l =
+abbrev pub invariant-loop-row : goal.invariant-loop-row
+invariant-loop-row l =
     (l.self.counts ≡ l.initial.self.counts)
-    × Moved l.table l.row l.r l.initial.self.cells.now l.self.cells.now
+    × Moved l.fn.at.table l.fn.at.row l.row l.initial.self.cells.now l.self.cells.now
