@@ -1,30 +1,39 @@
 -- A stack of truths, the top one first, and what a term of a condition makes of it.
-use Rattle.std.specs.Prelude.{cond, List, [], ◌∷◌, map, reverse, length, take, nat_lt}
+use Rattle.std.specs.Prelude.{◌≡◌, cond, List, [], ◌∷◌, map, reverse, length, take, nat_lt}
 use Rattle.semantics.specs.Conditions.{Term, comparing, conjoining, disjoining, negating}
-use Rattle.semantics.specs.Truths.{Truth, unknown, both, either, opposite, comparison_truth}
+use Rattle.semantics.specs.Truths as semantics
+use Rattle.semantics.specs.Truths.{unknown, both, either, opposite, comparison_truth}
 use Rattle.semantics.specs.Views.{Masked}
+use Rattle.compare.specs.declared.kleene.Truth.{Truth}
 use Rattle.compare.specs.declared.stack.Truths.{Truths}
 use Rattle.compare.specs.Truths.{truth_of}
 
 -- The truths that a structure of the code stands for.
-abbrev pub stack_of : Truths → List Truth
+abbrev pub stack_of : Truths → List semantics.Truth
 stack_of s = reverse (map truth_of (take s.depth s.list))
 
 -- One truth more; a stack of 15 stays.
-abbrev pub pushed : Truth → List Truth → List Truth
+abbrev pub pushed : semantics.Truth → List semantics.Truth → List semantics.Truth
 pushed t ts = cond (nat_lt (length ts) 15) (t ∷ ts) ts
 
 -- The top truth, unknown where there is none, and the truths under it.
-abbrev pub top : List Truth → Truth
+abbrev pub top : List semantics.Truth → semantics.Truth
 top [] = unknown
 top (t ∷ ts) = t
 
-abbrev pub under : List Truth → List Truth
+abbrev pub under : List semantics.Truth → List semantics.Truth
 under [] = []
 under (t ∷ ts) = ts
 
+-- The stack once the two truths on top, the upper one second, are replaced by what joins them.
+abbrev pub Joined : (Truth → Truth → Truth → Type 0) → List semantics.Truth → List semantics.Truth → Type 0
+Joined joins before after =
+    (left : Truth) × (right : Truth) × (truth : Truth)
+    × (truth_of left ≡ top (under before)) × (truth_of right ≡ top before) × joins left right truth
+    × (after ≡ pushed (truth_of truth) (under (under before)))
+
 -- The stack after a term on a row: it takes its parts from the top, the right one first.
-abbrev pub stepped : Term → List Masked → List Truth → List Truth
+abbrev pub stepped : Term → List Masked → List semantics.Truth → List semantics.Truth
 stepped (comparing k) row ts = pushed (comparison_truth k row) ts
 stepped conjoining row ts = pushed (both (top (under ts)) (top ts)) (under (under ts))
 stepped disjoining row ts = pushed (either (top (under ts)) (top ts)) (under (under ts))

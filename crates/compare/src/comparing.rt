@@ -36,7 +36,7 @@ pub fn compare(operator: Operator, left: &Masked, right: &Masked) -> Truth
     ensures { truth_of result ≡ compare operator (masked_of left.now) (masked_of right.now) }
 {
     match (left, right) {
-        (Masked::Value(a), Masked::Value(b)) => Truth::of(plainly(
+        (Masked::Value(a), Masked::Value(b)) => Truth::from(plainly(
             operator,
             Plain::of(a),
             Plain::of(b),
@@ -71,7 +71,11 @@ pub(crate) fn compare_with_digits(operator: Operator, left: &Masked, digits: &[u
     ensures { truth_of result ≡ compare operator (masked_of left.now) (value (prefix digits.now)) }
 {
     match left {
-        Masked::Value(cell) => Truth::of(plainly(operator, Plain::of(cell), Plain::Digits(digits))),
+        Masked::Value(cell) => Truth::from(plainly(
+            operator,
+            Plain::of(cell),
+            Plain::Digits(digits),
+        )),
         _ => Truth::Unknown,
     }
 }

@@ -2,74 +2,66 @@ ghost use Rattle.std.specs.Prelude.{◌≡◌};
 ghost use Rattle.semantics.specs.Truths.{both, either, opposite, known, is_true, may_be_true};
 ghost use Rattle.compare.specs.Truths.{truth_of};
 
-/// What is known of a condition on a row.
-#[derive(Clone, Copy, PartialEq, Eq, Debug)]
+use std::ops::Not;
+
+/// What is known of a condition on a row, from false to true.
+#[derive(Clone, Copy, PartialEq, Eq, PartialOrd, Ord, Debug)]
 pub enum Truth {
-    Holds,
     Fails,
     Unknown,
+    Holds,
+}
+
+/// The truth of a test.
+impl From<bool> for Truth {
+    ghost from_gives = { λ test truth. truth_of truth ≡ known test };
+
+    fn from(test: bool) -> Truth {
+        if test { Truth::Holds } else { Truth::Fails }
+    }
+}
+
+/// "Not" of Kleene's strong logic.
+impl Not for Truth {
+    type Output = Truth;
+
+    ghost not_gives = { λ truth other. truth_of other ≡ opposite (truth_of truth) };
+
+    fn not(self) -> Truth {
+        match self {
+            Truth::Fails => Truth::Holds,
+            Truth::Unknown => Truth::Unknown,
+            Truth::Holds => Truth::Fails,
+        }
+    }
 }
 
 impl Truth {
-    /// The truth of a test.
-    pub(crate) fn of(test: bool) -> Truth
-        ensures { truth_of result ≡ known test }
-    {
-        if test { Truth::Holds } else { Truth::Fails }
-    }
-
     /// "And" of Kleene's strong logic.
     pub(crate) fn and(self, other: Truth) -> Truth
         ensures { truth_of result ≡ both (truth_of self) (truth_of other) }
     {
-        match (self, other) {
-            (Truth::Fails, _) | (_, Truth::Fails) => Truth::Fails,
-            (Truth::Holds, Truth::Holds) => Truth::Holds,
-            _ => Truth::Unknown,
-        }
+        self.min(other)
     }
 
     /// "Or" of Kleene's strong logic.
     pub(crate) fn or(self, other: Truth) -> Truth
         ensures { truth_of result ≡ either (truth_of self) (truth_of other) }
     {
-        match (self, other) {
-            (Truth::Holds, _) | (_, Truth::Holds) => Truth::Holds,
-            (Truth::Fails, Truth::Fails) => Truth::Fails,
-            _ => Truth::Unknown,
-        }
-    }
-
-    /// "Not" of Kleene's strong logic.
-    pub(crate) fn not(self) -> Truth
-        ensures { truth_of result ≡ opposite (truth_of self) }
-    {
-        match self {
-            Truth::Holds => Truth::Fails,
-            Truth::Fails => Truth::Holds,
-            Truth::Unknown => Truth::Unknown,
-        }
+        self.max(other)
     }
 
     /// Whether it is true.
     pub fn is_true(self) -> bool
         ensures { result ≡ is_true (truth_of self) }
     {
-        match self {
-            Truth::Holds => true,
-            Truth::Fails => false,
-            Truth::Unknown => false,
-        }
+        self == Truth::Holds
     }
 
     /// Whether it is true or unknown.
     pub fn may_be_true(self) -> bool
         ensures { result ≡ may_be_true (truth_of self) }
     {
-        match self {
-            Truth::Holds => true,
-            Truth::Fails => false,
-            Truth::Unknown => true,
-        }
+        self != Truth::Fails
     }
 }

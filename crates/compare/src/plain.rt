@@ -1,6 +1,5 @@
 ghost use Rattle.std.specs.Prelude.{◌≡◌};
-ghost use Rattle.semantics.specs.Truths.{begins, below, covers, shorter, plainly};
-ghost use Rattle.semantics.specs.Values.{same_value};
+ghost use Rattle.semantics.specs.Truths.{below, covers, shorter, plainly};
 ghost use Rattle.cells.specs.Cells.{cell_value};
 ghost use Rattle.compare.specs.Plains.{plain_of};
 
@@ -8,7 +7,7 @@ use cells::Cell;
 use semantics::Operator;
 
 /// A value as it is compared: a number, or the digits of a prefix where they lie.
-#[derive(Clone, Copy)]
+#[derive(Clone, Copy, PartialEq, Eq)]
 pub(crate) enum Plain<'a> {
     Number(u32),
     Digits(&'a [u8]),
@@ -26,24 +25,6 @@ impl<'a> Plain<'a> {
     }
 }
 
-/// Whether the second digits begin with the first.
-fn begins(front: &[u8], digits: &[u8]) -> bool
-    ensures { result ≡ begins front.now digits.now }
-{
-    digits.starts_with(front)
-}
-
-/// Whether the values are the same.
-fn same(left: Plain<'_>, right: Plain<'_>) -> bool
-    ensures { result ≡ same_value (plain_of left.entry) (plain_of right.entry) }
-{
-    match (left, right) {
-        (Plain::Number(a), Plain::Number(b)) => a == b,
-        (Plain::Digits(a), Plain::Digits(b)) => a == b,
-        _ => false,
-    }
-}
-
 /// Whether the first value is a number below the second.
 fn below(left: Plain<'_>, right: Plain<'_>) -> bool
     ensures { result ≡ below (plain_of left.entry) (plain_of right.entry) }
@@ -55,12 +36,13 @@ fn below(left: Plain<'_>, right: Plain<'_>) -> bool
 }
 
 /// Whether the second prefix begins with the first; a number covers itself.
+#[tactic(auto, using(crate::proofs::Digits::starts_begins))]
 fn covers(left: Plain<'_>, right: Plain<'_>) -> bool
     ensures { result ≡ covers (plain_of left.entry) (plain_of right.entry) }
 {
     match (left, right) {
         (Plain::Number(a), Plain::Number(b)) => a == b,
-        (Plain::Digits(a), Plain::Digits(b)) => begins(a, b),
+        (Plain::Digits(a), Plain::Digits(b)) => b.starts_with(a),
         _ => false,
     }
 }
@@ -80,10 +62,10 @@ pub(crate) fn plainly(operator: Operator, left: Plain<'_>, right: Plain<'_>) -> 
     ensures { result ≡ plainly operator (plain_of left.entry) (plain_of right.entry) }
 {
     match operator {
-        Operator::Equal => same(left, right),
-        Operator::Unequal => !same(left, right),
+        Operator::Equal => left == right,
+        Operator::Unequal => left != right,
         Operator::Less => below(left, right),
-        Operator::AtMost => below(left, right) || same(left, right),
+        Operator::AtMost => below(left, right) || left == right,
         Operator::Covers => covers(left, right),
         Operator::Shorter => shorter(left, right),
     }

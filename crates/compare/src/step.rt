@@ -2,7 +2,7 @@ ghost use Rattle.std.specs.Prelude.{◌≡◌, [], map};
 ghost use Rattle.semantics.specs.Truths.{cell_at};
 ghost use Rattle.query.specs.Terms.{term_of};
 ghost use Rattle.view.specs.Views.{masked_of};
-ghost use Rattle.compare.specs.Stacks.{stack_of, pushed, top, under, stepped};
+ghost use Rattle.compare.specs.Stacks.{stack_of, pushed, top, under, Joined, stepped};
 ghost use Rattle.compare.specs.Truths.{truth_of};
 
 use crate::comparing::{compare, compare_with_digits};
@@ -16,12 +16,9 @@ use view::Masked;
 fn cell_at(row: &[Masked], column: u8) -> Masked
     ensures { masked_of result ≡ cell_at (map masked_of row.now) column }
 {
-    let i = column as usize;
-    if i < row.len() {
-        row[i]
-    } else {
-        Masked::Value(Cell::Number(0))
-    }
+    row.get(usize::from(column))
+        .copied()
+        .unwrap_or(Masked::Value(Cell::Number(0)))
 }
 
 impl Truths {
@@ -57,6 +54,16 @@ impl Truths {
         self.list[self.depth]
     }
 
+    /// Takes the two top truths off, the right one first, and puts what joins them in their place.
+    fn join<F: FnOnce(Truth, Truth) -> Truth>(&mut self, joined: F)
+        requires { F.IsAlwaysCallable joined }
+        ensures { Joined (F.post joined) (stack_of self.old) (stack_of self.new) }
+    {
+        let right = self.pop();
+        let left = self.pop();
+        self.push(joined(left, right));
+    }
+
     /// Takes off the truths that a term joins, and puts the truth of the term on a row in their place.
     pub(crate) fn step(&mut self, term: Term<'_>, row: &[Masked])
         ensures { stack_of self.new ≡ stepped (term_of term.entry) (map masked_of row.now) (stack_of self.old) }
@@ -72,19 +79,11 @@ impl Truths {
             Term::ByPrefix(operator, left, digits) => {
                 self.push(compare_with_digits(operator, &cell_at(row, left), digits));
             }
-            Term::And => {
-                let right = self.pop();
-                let left = self.pop();
-                self.push(left.and(right));
-            }
-            Term::Or => {
-                let right = self.pop();
-                let left = self.pop();
-                self.push(left.or(right));
-            }
+            Term::And => self.join(Truth::and),
+            Term::Or => self.join(Truth::or),
             Term::Not => {
                 let truth = self.pop();
-                self.push(truth.not());
+                self.push(!truth);
             }
         }
     }
