@@ -27,14 +27,14 @@ fn with_prefix(
 fn condition(heap: Global, bytes: &mut Vec<u8>, term: Term<'_>) -> Result<(), AllocError> {
     match term {
         Term::ByColumn(operator, left, right) => {
-            record(bytes, 0x10, &[operator.number(), left, right])
+            record(bytes, 0x10, &[u8::from(operator), left, right])
         }
         Term::ByNumber(operator, left, number) => {
             let [a, b, c, d] = number.to_le_bytes();
-            record(bytes, 0x11, &[operator.number(), left, a, b, c, d])
+            record(bytes, 0x11, &[u8::from(operator), left, a, b, c, d])
         }
         Term::ByPrefix(operator, left, digits) => {
-            with_prefix(heap, bytes, operator.number(), left, digits)
+            with_prefix(heap, bytes, u8::from(operator), left, digits)
         }
         Term::And => record(bytes, 0x13, &[]),
         Term::Or => record(bytes, 0x14, &[]),

@@ -103,9 +103,7 @@ impl Draft {
         if self.tables[table].width >= 8 {
             return Err(Refusal::TooManyColumns);
         }
-        let Some(kind) = Kind::from_number(kind) else {
-            return Err(Refusal::UnknownKind);
-        };
+        let kind = Kind::try_from(kind)?;
         if !self.admits(kind, domain) {
             return Err(Refusal::WrongDomain);
         }

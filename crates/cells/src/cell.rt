@@ -4,9 +4,10 @@ ghost use Rattle.cells.specs.Cells.{cell_value};
 
 use crate::prefix::Prefix;
 use semantics::Kind;
+use std::fmt;
 
 /// A number or a prefix, in 12 bytes.
-#[derive(Clone, Copy, Debug)]
+#[derive(Clone, Copy, PartialEq, Eq, Debug)]
 pub enum Cell {
     Number(u32),
     Prefix(Prefix),
@@ -31,13 +32,20 @@ impl Cell {
     }
 
     /// Whether the cells hold the same value.
+    #[tactic(auto, using(crate::proofs::Same::equal_cells))]
     pub fn same(&self, other: &Cell) -> bool
         ensures { result ≡ same_value (cell_value self.now) (cell_value other.now) }
     {
-        match (self, other) {
-            (Cell::Number(a), Cell::Number(b)) => a == b,
-            (Cell::Prefix(a), Cell::Prefix(b)) => a.digits() == b.digits(),
-            _ => false,
+        self == other
+    }
+}
+
+/// As it is shown to a person.
+impl fmt::Display for Cell {
+    fn fmt<W: fmt::Write>(&self, f: &mut fmt::Formatter<W>) -> fmt::Result {
+        match self {
+            Cell::Number(number) => number.fmt(f),
+            Cell::Prefix(prefix) => prefix.fmt(f),
         }
     }
 }

@@ -6,17 +6,13 @@ ghost use Rattle.cells.specs.Prefixes.{digits_of, Canonical};
 
 use crate::prefix::Prefix;
 use semantics::Refusal;
+use std::{fmt, str};
 
 /// Whether each byte is the character of a decimal digit.
 pub fn all_digits(bytes: &[u8]) -> bool
     ensures { result ≡ every is_digit bytes.now }
 {
-    for byte in bytes {
-        if !byte.is_ascii_digit() {
-            return false;
-        }
-    }
-    true
+    bytes.iter().all(|byte| byte.is_ascii_digit())
 }
 
 impl Prefix {
@@ -49,6 +45,16 @@ impl Prefix {
         ensures { result.now ≡ digits_of self.now }
     {
         &self.places[0..self.count as usize]
+    }
+}
+
+/// Its digits.
+impl fmt::Display for Prefix {
+    fn fmt<W: fmt::Write>(&self, f: &mut fmt::Formatter<W>) -> fmt::Result {
+        match str::from_utf8(self.digits()) {
+            Ok(text) => f.pad(text),
+            Err(_) => Err(fmt::Error),
+        }
     }
 }
 

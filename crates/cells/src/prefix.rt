@@ -3,7 +3,7 @@ ghost use Rattle.semantics.specs.Lists.{every};
 ghost use Rattle.semantics.specs.Values.{is_digit};
 
 /// A prefix of 0 to 8 decimal digits, each as its character. The places past its digits hold 0.
-#[derive(Clone, Copy, Debug)]
+#[derive(Clone, Copy, PartialEq, Eq, Debug)]
 pub struct Prefix {
     pub(crate) places: [u8; 8],
     pub(crate) count: u8,

@@ -31,7 +31,7 @@ fn by_column(body: &[u8]) -> Option<Term<'_>>
     let [number, left, right] = body else {
         return None;
     };
-    let Some(operator) = Operator::from_number(*number) else {
+    let Ok(operator) = Operator::try_from(*number) else {
         return None;
     };
     Some(Term::ByColumn(operator, *left, *right))
@@ -44,7 +44,7 @@ fn by_number(body: &[u8]) -> Option<Term<'_>>
     let [number, left, b0, b1, b2, b3] = body else {
         return None;
     };
-    let Some(operator) = Operator::from_number(*number) else {
+    let Ok(operator) = Operator::try_from(*number) else {
         return None;
     };
     let low = *b0 as u32 + 256 * *b1 as u32;
@@ -60,7 +60,7 @@ fn by_prefix(body: &[u8]) -> Option<Term<'_>>
     let [number, left, digits @ ..] = body else {
         return None;
     };
-    let Some(operator) = Operator::from_number(*number) else {
+    let Ok(operator) = Operator::try_from(*number) else {
         return None;
     };
     if digits.len() > 8 || !all_digits(digits) {

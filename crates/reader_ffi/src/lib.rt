@@ -59,5 +59,5 @@ pub extern "C" fn reader_kind(query: &[u8], column: usize) -> u8 {
     if column >= listed.len() {
         return 0;
     }
-    listed[column].number()
+    u8::from(listed[column])
 }

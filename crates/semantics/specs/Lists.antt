@@ -1,16 +1,14 @@
 -- Tests of lists, and lists made from a function of the index.
-use Rattle.std.specs.Prelude.{ℕ, Bool, true, false, ◌&&◌, ◌||◌, List, [], ◌∷◌, map}
-use Rattle.std.specs.List.{range_with_len}
+use Rattle.std.specs.Prelude.{ℕ, Bool, true, false, ◌&&◌, List, [], ◌∷◌, map}
+use Rattle.std.specs.List.{list_all, list_any, range_with_len}
 
 -- Does every element pass?
 abbrev pub every : {X : Type 0} → (X → Bool) → List X → Bool
-every p [] = true
-every p (x ∷ xs) = p x && every p xs
+every p xs = list_all p xs
 
 -- Does some element pass?
 abbrev pub some : {X : Type 0} → (X → Bool) → List X → Bool
-some p [] = false
-some p (x ∷ xs) = p x || some p xs
+some p xs = list_any p xs
 
 -- Are the lists equally long, and do the elements pass pair by pair?
 abbrev pub pairwise : {X Y : Type 0} → (X → Y → Bool) → List X → List Y → Bool

@@ -1,5 +1,7 @@
 ghost use Rattle.std.specs.Prelude.{◌≡◌};
-ghost use Rattle.semantics.specs.Kinds.{kind_number, kind_from};
+ghost use Rattle.semantics.specs.Kinds.{kind_number, KindFrom};
+
+use crate::refusal::Refusal;
 
 /// What the cells of a column hold.
 #[derive(Clone, Copy, PartialEq, Eq, Debug)]
@@ -9,29 +11,33 @@ pub enum Kind {
 }
 
 /// A column of a table: what its cells hold, and the domain that they may be linked in, 0 for none.
-#[derive(Clone, Copy, Debug)]
+#[derive(Clone, Copy, PartialEq, Eq, Debug)]
 pub struct Column {
     pub kind: Kind,
     pub domain: u8,
 }
 
-impl Kind {
-    /// The kind with this number.
-    pub fn from_number(number: u8) -> Option<Kind>
-        ensures { result ≡ kind_from number }
-    {
+/// The kind with this number.
+impl TryFrom<u8> for Kind {
+    type Error = Refusal;
+
+    ghost try_from_gives = { KindFrom };
+
+    fn try_from(number: u8) -> Result<Kind, Refusal> {
         match number {
-            1 => Some(Kind::Number),
-            2 => Some(Kind::Prefix),
-            _ => None,
+            1 => Ok(Kind::Number),
+            2 => Ok(Kind::Prefix),
+            _ => Err(Refusal::UnknownKind),
         }
     }
+}
 
-    /// The number of the kind.
-    pub fn number(self) -> u8
-        ensures { result ≡ kind_number self }
-    {
-        match self {
+/// The number of the kind.
+impl From<Kind> for u8 {
+    ghost from_gives = { λ kind number. number ≡ kind_number kind };
+
+    fn from(kind: Kind) -> u8 {
+        match kind {
             Kind::Number => 1,
             Kind::Prefix => 2,
         }

@@ -10,6 +10,6 @@ mod rule;
 
 pub use kind::{Column, Kind};
 pub use mark::Mark;
-pub use operator::Operator;
+pub use operator::{Operator, UnknownOperator};
 pub use refusal::Refusal;
 pub use rule::{Consent, Rule, Sign, Test};

@@ -2,7 +2,7 @@ ghost use Rattle.std.specs.Prelude.{◌≡◌};
 ghost use Rattle.semantics.specs.Marks.{narrower_mark, wider_mark};
 
 /// How much of a cell a broker may see, from narrow to wide.
-#[derive(Clone, Copy, PartialEq, Eq, Debug)]
+#[derive(Clone, Copy, PartialEq, Eq, PartialOrd, Ord, Debug)]
 pub enum Mark {
     /// Nothing but that the cell is there.
     Hidden,
@@ -17,21 +17,13 @@ impl Mark {
     pub fn narrower(self, other: Mark) -> Mark
         ensures { result ≡ narrower_mark self other }
     {
-        match (self, other) {
-            (Mark::Shown, mark) | (mark, Mark::Shown) => mark,
-            (Mark::Linked, Mark::Linked) => Mark::Linked,
-            _ => Mark::Hidden,
-        }
+        self.min(other)
     }
 
     /// The wider of two marks.
     pub fn wider(self, other: Mark) -> Mark
         ensures { result ≡ wider_mark self other }
     {
-        match (self, other) {
-            (Mark::Hidden, mark) | (mark, Mark::Hidden) => mark,
-            (Mark::Linked, Mark::Linked) => Mark::Linked,
-            _ => Mark::Shown,
-        }
+        self.max(other)
     }
 }

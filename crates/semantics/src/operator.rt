@@ -1,5 +1,5 @@
 ghost use Rattle.std.specs.Prelude.{◌≡◌};
-ghost use Rattle.semantics.specs.Operators.{operator_number, operator_from};
+ghost use Rattle.semantics.specs.Operators.{operator_number, OperatorFrom};
 
 /// How a condition compares its left side with its right.
 #[derive(Clone, Copy, PartialEq, Eq, Debug)]
@@ -12,27 +12,35 @@ pub enum Operator {
     Shorter,
 }
 
-impl Operator {
-    /// The operator with this number.
-    pub fn from_number(number: u8) -> Option<Operator>
-        ensures { result ≡ operator_from number }
-    {
+/// Said of a number that no operator has.
+#[derive(Clone, Copy, PartialEq, Eq, Debug)]
+pub struct UnknownOperator;
+
+/// The operator with this number.
+impl TryFrom<u8> for Operator {
+    type Error = UnknownOperator;
+
+    ghost try_from_gives = { OperatorFrom };
+
+    fn try_from(number: u8) -> Result<Operator, UnknownOperator> {
         match number {
-            1 => Some(Operator::Equal),
-            2 => Some(Operator::Unequal),
-            3 => Some(Operator::Less),
-            4 => Some(Operator::AtMost),
-            5 => Some(Operator::Covers),
-            6 => Some(Operator::Shorter),
-            _ => None,
+            1 => Ok(Operator::Equal),
+            2 => Ok(Operator::Unequal),
+            3 => Ok(Operator::Less),
+            4 => Ok(Operator::AtMost),
+            5 => Ok(Operator::Covers),
+            6 => Ok(Operator::Shorter),
+            _ => Err(UnknownOperator),
         }
     }
+}
 
-    /// The number of the operator.
-    pub fn number(self) -> u8
-        ensures { result ≡ operator_number self }
-    {
-        match self {
+/// The number of the operator.
+impl From<Operator> for u8 {
+    ghost from_gives = { λ operator number. number ≡ operator_number operator };
+
+    fn from(operator: Operator) -> u8 {
+        match operator {
             Operator::Equal => 1,
             Operator::Unequal => 2,
             Operator::Less => 3,

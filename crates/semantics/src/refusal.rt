@@ -1,8 +1,11 @@
 ghost use Rattle.std.specs.Prelude.{◌≡◌};
 ghost use Rattle.semantics.specs.Refusals.{refusal_number, refusal_place, refusal_meaning};
 
+use std::error::Error;
+use std::fmt;
+
 /// Why a call is refused, and where. A refusal without a place has place 0.
-#[derive(Clone, Copy, Debug)]
+#[derive(Clone, Copy, PartialEq, Eq, Debug)]
 pub enum Refusal {
     /// The table's number is not 0 to 3.
     NoTable,
@@ -140,3 +143,15 @@ impl Refusal {
         }
     }
 }
+
+/// As it is shown to a person.
+impl fmt::Display for Refusal {
+    fn fmt<W: fmt::Write>(&self, f: &mut fmt::Formatter<W>) -> fmt::Result {
+        let number = self.number();
+        let place = self.place();
+        let meaning = self.meaning();
+        write!(f, "refused {number} at {place}: {meaning}")
+    }
+}
+
+impl Error for Refusal {}

@@ -1,19 +1,19 @@
 /// What a rule does with the cells that it is about.
-#[derive(Clone, Copy, Debug)]
+#[derive(Clone, Copy, PartialEq, Eq, Debug)]
 pub enum Sign {
     Allow,
     Prohibit,
 }
 
 /// When a rule holds for a row: always, or where a column of the row holds a number.
-#[derive(Clone, Copy, Debug)]
+#[derive(Clone, Copy, PartialEq, Eq, Debug)]
 pub enum Test {
     Always,
     Holds { column: usize, number: u32 },
 }
 
 /// A rule of a filter policy: what a broker may see, or may not see, of a table's column.
-#[derive(Clone, Copy, Debug)]
+#[derive(Clone, Copy, PartialEq, Eq, Debug)]
 pub struct Rule {
     pub broker: u16,
     pub table: usize,
@@ -23,7 +23,7 @@ pub struct Rule {
 }
 
 /// What a customer has consented to: the columns that are shown, and those that are linked.
-#[derive(Clone, Copy, Debug)]
+#[derive(Clone, Copy, PartialEq, Eq, Debug)]
 pub struct Consent {
     pub key: u32,
     pub shown: [bool; 8],

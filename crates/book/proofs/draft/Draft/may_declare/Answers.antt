@@ -9,19 +9,14 @@ returns-then-self-table-ge8 c =
     let w = width-at c.args.self.now.tables c.args.table c.index-self-table.result (omega arith) in
     record { answers = declare_full (columns_in c.args.self.now.tables) c.args.table c.args.kind c.args.domain (omega arith) (omega arith); takes = tt }
 
-pub returns-in_default : goal.returns-in_default
-returns-in_default c =
-    let w = width-at c.args.self.now.tables c.args.table c.index-self-table.result (omega arith) in
-    record { answers = declare_unknown (columns_in c.args.self.now.tables) c.args.table c.args.kind c.args.domain (omega arith) (omega arith) (sym c.in_default.ensures); takes = tt }
-
 pub returns-then-not-admits : goal.returns-then-not-admits
 returns-then-not-admits c =
     let w = width-at c.args.self.now.tables c.args.table c.index-self-table.result (omega arith) in
-    record { answers = declare_known_kind (columns_in c.args.self.now.tables) c.args.table c.args.kind c.args.domain (omega arith) (omega arith) c.in-Some.kind false c.in-Some.ensures c.if-not-admits.ensures; takes = tt }
+    record { answers = declare_known_kind (columns_in c.args.self.now.tables) c.args.table c.args.kind c.args.domain (omega arith) (omega arith) c.in_ok-kind.kind false (sym c.in_ok-kind.ensures) c.if-not-admits.ensures; takes = tt }
 
 pub returns : goal.returns
 returns c =
     let S = columns_in c.args.self.now.tables in
     let w = width-at c.args.self.now.tables c.args.table c.index-self-table.result (omega arith) in
-    let a = declare_known_kind S c.args.table c.args.kind c.args.domain (omega arith) (omega arith) c.in-Some.kind true c.in-Some.ensures c.if-not-admits.ensures in
-    record { answers = a; takes = declare_known S c.args.table c.args.kind c.args.domain (record { kind = c.in-Some.kind; domain = c.args.domain }) a }
+    let a = declare_known_kind S c.args.table c.args.kind c.args.domain (omega arith) (omega arith) c.in_ok-kind.kind true (sym c.in_ok-kind.ensures) c.if-not-admits.ensures in
+    record { answers = a; takes = declare_known S c.args.table c.args.kind c.args.domain (record { kind = c.in_ok-kind.kind; domain = c.args.domain }) a }
