@@ -1,5 +1,6 @@
 -- A stack of truths, the top one first, and what a term of a condition makes of it.
-use Rattle.std.specs.Prelude.{◌≡◌, cond, List, [], ◌∷◌, map, reverse, length, take, nat_lt}
+use Rattle.std.specs.Prelude.{◌≡◌, cond, List, [], ◌∷◌, map, reverse, length, nat_lt}
+use Rattle.bounded.specs.Bounded.{items}
 use Rattle.semantics.specs.Conditions.{Term, comparing, conjoining, disjoining, negating}
 use Rattle.semantics.specs.Truths as semantics
 use Rattle.semantics.specs.Truths.{unknown, both, either, opposite, comparison_truth}
@@ -10,7 +11,7 @@ use Rattle.compare.specs.Truths.{truth_of}
 
 -- The truths that a structure of the code stands for.
 abbrev pub stack_of : Truths → List semantics.Truth
-stack_of s = reverse (map truth_of (take s.depth s.list))
+stack_of s = reverse (map truth_of (items s.list))
 
 -- One truth more; a stack of 15 stays.
 abbrev pub pushed : semantics.Truth → List semantics.Truth → List semantics.Truth

@@ -8,6 +8,7 @@ ghost use Rattle.compare.specs.Truths.{truth_of};
 use crate::comparing::{compare, compare_with_digits};
 use crate::kleene::Truth;
 use crate::stack::Truths;
+use bounded::Bounded;
 use cells::Cell;
 use query::Term;
 use view::Masked;
@@ -27,8 +28,7 @@ impl Truths {
         ensures { stack_of result ≡ [] }
     {
         Truths {
-            list: [Truth::Unknown; 15],
-            depth: 0,
+            list: Bounded::new(Truth::Unknown),
         }
     }
 
@@ -36,10 +36,7 @@ impl Truths {
     fn push(&mut self, truth: Truth)
         ensures { stack_of self.new ≡ pushed (truth_of truth) (stack_of self.old) }
     {
-        if self.depth < 15 {
-            self.list[self.depth] = truth;
-            self.depth += 1;
-        }
+        let _ = self.list.push(truth);
     }
 
     /// Takes the top truth off, unknown where there is none.
@@ -47,11 +44,7 @@ impl Truths {
         ensures answer { truth_of result ≡ top (stack_of self.old) }
         ensures left { stack_of self.new ≡ under (stack_of self.old) }
     {
-        if self.depth == 0 {
-            return Truth::Unknown;
-        }
-        self.depth -= 1;
-        self.list[self.depth]
+        self.list.pop().unwrap_or(Truth::Unknown)
     }
 
     /// Takes the two top truths off, the right one first, and puts what joins them in their place.
