@@ -1,5 +1,5 @@
 -- The answers of a record's parts are found before its own.
-use Rattle.std.proofs.Common.{◌≡◌, ℕ, List, Some, None, Option, sym, subst, Bor}
+use Rattle.std.proofs.Common.{◌≡◌, ℕ, List, get_or, Some, None, Option, sym, ap, ◌∙◌, subst, Bor}
 use Rattle.semantics.specs.declared.kind.Column.{Column}
 use Rattle.semantics.specs.Queries.{Tree}
 use Rattle.view.specs.declared.masked.Masked.{Masked}
@@ -43,11 +43,11 @@ module _ (columns : List (List Column)) (v : View) (q : Tree) (bound : Bound) (s
         ready = subst (λ s. Ready bound last s) (sym is) (two.grown (slot bound l) (a, one.here), (b, two.here));
       }
 
-      pub difference-parts : step ≡ Difference l r → Settled columns v q (other bound) r cells' new last b → Prepared columns v q bound step cells' old last
-      difference-parts is two = record {
+      pub difference-parts : (bound' : Bound) → bound' ≡ other bound → step ≡ Difference l r → Settled columns v q bound' r cells' new last b → Prepared columns v q bound step cells' old last
+      difference-parts bound' o is two = record {
         held = two.held;
         grown = λ k there. two.grown k (one.grown k there);
-        ready = subst (λ s. Ready bound last s) (sym is) (two.grown (slot bound l) (a, one.here), (b, two.here));
+        ready = subst (λ s. Ready bound last s) (sym is) (two.grown (slot bound l) (a, one.here), (b, ap (λ c. get_or last (slot c r) None) (sym o) ∙ two.here));
       }
 
 -- what was found from the parts on is found from the start on

@@ -3,7 +3,6 @@ ghost use Rattle.semantics.specs.declared.kind.Column.{Column};
 ghost use Rattle.semantics.specs.Queries.{Tree, nodes, kinds_of};
 ghost use Rattle.view.specs.Views.{view_tables};
 ghost use Rattle.workspace.specs.declared.block.Block as block;
-ghost use Rattle.answer.specs.declared.bound.Bound.TheVariants.{Low, High};
 ghost use Rattle.answer.specs.Bounds.{answer_of, slot};
 ghost use Rattle.answer.specs.Memos.{Over, Sound, Held, Ready, Found, InSlot};
 ghost use Rattle.answer.specs.Places.{Makes};
@@ -112,90 +111,48 @@ impl Task<'_, '_, '_> {
         memo[bound.slot(number)] = Some(block);
         Some(block)
     }
-}
 
-/// The low answer of a record, in the rows of its slot; none where an answer has too many rows.
-#[cycle(high_low)]
-pub(crate) fn low(
-    task: Task,
-    work: &mut [Masked],
-    memo: &mut [Option<Block>; 30],
-    number: usize,
-) -> Option<Block>
-    requires sound { Sound task.limit memo.old }
-    requires room { (240 * task.limit ≤ length work.old) × (task.limit ≤ 512) }
-    requires lower { number < 15 }
-    ensures sound { Sound task.entry.limit memo.new }
-    ensures found { (columns : List (List Column)) (q : Tree) → Over columns task.entry.view.now task.entry.query.now task.entry.plan.now q → number < length (nodes q) → Held columns task.entry.view.now q work.old memo.old → Found task.entry.limit columns task.entry.view.now q Low number work.new memo.old memo.new result }
-{
-    let found = memo[Bound::Low.slot(number)];
-    if let Some(block) = found {
-        return Some(block);
+    /// The low or the high answer of a record, in the rows of its slot; none where an answer has too
+    /// many rows. What a difference takes away is the other answer of its right part.
+    pub(crate) fn evaluate(
+        self,
+        bound: Bound,
+        work: &mut [Masked],
+        memo: &mut [Option<Block>; 30],
+        number: usize,
+    ) -> Option<Block>
+        requires sound { Sound self.limit memo.old }
+        requires room { (240 * self.limit ≤ length work.old) × (self.limit ≤ 512) }
+        requires lower { number < 15 }
+        ensures sound { Sound self.entry.limit memo.new }
+        ensures found { (columns : List (List Column)) (q : Tree) → Over columns self.entry.view.now self.entry.query.now self.entry.plan.now q → number < length (nodes q) → Held columns self.entry.view.now q work.old memo.old → Found self.entry.limit columns self.entry.view.now q bound number work.new memo.old memo.new result }
+    {
+        let found = memo[bound.slot(number)];
+        if let Some(block) = found {
+            return Some(block);
+        }
+        let step = self.step(number)?;
+        match step {
+            Step::Table(_) => {}
+            Step::Select(l, _) => {
+                self.evaluate(bound, work, memo, l)?;
+            }
+            Step::Project(l, _) => {
+                self.evaluate(bound, work, memo, l)?;
+            }
+            Step::Product(l, r) => {
+                self.evaluate(bound, work, memo, l)?;
+                self.evaluate(bound, work, memo, r)?;
+            }
+            Step::Union(l, r) => {
+                self.evaluate(bound, work, memo, l)?;
+                self.evaluate(bound, work, memo, r)?;
+            }
+            Step::Difference(l, r) => {
+                self.evaluate(bound, work, memo, l)?;
+                self.evaluate(bound.other(), work, memo, r)?;
+            }
+        }
+        self.fill(bound, step, work, memo, number)
     }
-    let step = task.step(number)?;
-    match step {
-        Step::Table(_) => {}
-        Step::Select(l, _) => {
-            low(task, work, memo, l)?;
-        }
-        Step::Project(l, _) => {
-            low(task, work, memo, l)?;
-        }
-        Step::Product(l, r) => {
-            low(task, work, memo, l)?;
-            low(task, work, memo, r)?;
-        }
-        Step::Union(l, r) => {
-            low(task, work, memo, l)?;
-            low(task, work, memo, r)?;
-        }
-        Step::Difference(l, r) => {
-            low(task, work, memo, l)?;
-            high(task, work, memo, r)?;
-        }
-    }
-    task.fill(Bound::Low, step, work, memo, number)
-}
-
-/// The high answer of a record, in the rows of its slot; none where an answer has too many rows.
-#[cycle(high_low)]
-pub(crate) fn high(
-    task: Task,
-    work: &mut [Masked],
-    memo: &mut [Option<Block>; 30],
-    number: usize,
-) -> Option<Block>
-    requires sound { Sound task.limit memo.old }
-    requires room { (240 * task.limit ≤ length work.old) × (task.limit ≤ 512) }
-    requires lower { number < 15 }
-    ensures sound { Sound task.entry.limit memo.new }
-    ensures found { (columns : List (List Column)) (q : Tree) → Over columns task.entry.view.now task.entry.query.now task.entry.plan.now q → number < length (nodes q) → Held columns task.entry.view.now q work.old memo.old → Found task.entry.limit columns task.entry.view.now q High number work.new memo.old memo.new result }
-{
-    let found = memo[Bound::High.slot(number)];
-    if let Some(block) = found {
-        return Some(block);
-    }
-    let step = task.step(number)?;
-    match step {
-        Step::Table(_) => {}
-        Step::Select(l, _) => {
-            high(task, work, memo, l)?;
-        }
-        Step::Project(l, _) => {
-            high(task, work, memo, l)?;
-        }
-        Step::Product(l, r) => {
-            high(task, work, memo, l)?;
-            high(task, work, memo, r)?;
-        }
-        Step::Union(l, r) => {
-            high(task, work, memo, l)?;
-            high(task, work, memo, r)?;
-        }
-        Step::Difference(l, r) => {
-            high(task, work, memo, l)?;
-            low(task, work, memo, r)?;
-        }
-    }
-    task.fill(Bound::High, step, work, memo, number)
 }

@@ -9,7 +9,7 @@ ghost use Rattle.answer.specs.Memos.{Over};
 
 use crate::bound::Bound;
 use crate::difference::difference;
-use crate::evaluate::{high, low, part};
+use crate::evaluate::part;
 use crate::overfull::overfull;
 use crate::task::Task;
 use semantics::Refusal;
@@ -45,10 +45,10 @@ pub(crate) fn found(task: Task, work: &mut [Masked]) -> Result<Rows, Refusal>
         return Err(Refusal::NotOneRelation(0));
     }
     let root = count - 1;
-    let Some(_) = low(task, work, &mut memo, root) else {
+    let Some(_) = task.evaluate(Bound::Low, work, &mut memo, root) else {
         return Err(Refusal::TooManyRows(root as u8));
     };
-    let Some(_) = high(task, work, &mut memo, root) else {
+    let Some(_) = task.evaluate(Bound::High, work, &mut memo, root) else {
         return Err(Refusal::TooManyRows(root as u8));
     };
     let certain = part(&memo, task.limit, Bound::Low.slot(root));

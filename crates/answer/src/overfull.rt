@@ -5,7 +5,7 @@ ghost use Rattle.semantics.specs.Queries.{Tree};
 ghost use Rattle.view.specs.Views.{view_tables};
 ghost use Rattle.answer.specs.Memos.{Over, Sound, Held, HeldUnless};
 
-use crate::evaluate::high;
+use crate::bound::Bound;
 use crate::task::Task;
 use view::Masked;
 use workspace::Block;
@@ -24,7 +24,7 @@ pub(crate) fn overfull(
     ensures lowest { (columns : List (List Column)) (q : Tree) → Over columns task.entry.view.now task.entry.query.now task.entry.plan.now q → Held columns task.entry.view.now q work.old memo.old → (result ≡ overflow task.entry.limit (view_tables task.entry.view.now) q) × HeldUnless columns task.entry.view.now q work.new memo.new result }
 {
     for number in 0..task.plan.count {
-        let Some(_) = high(task, work, memo, number) else {
+        let Some(_) = task.evaluate(Bound::High, work, memo, number) else {
             return Some(number);
         };
     }
