@@ -5,6 +5,8 @@
 mod block;
 mod memory;
 mod read;
+mod rows;
 
 pub use block::Block;
 pub use memory::clear;
+pub use rows::Rows;

@@ -1,0 +1,45 @@
+ghost use Rattle.std.specs.Prelude.{◌≡◌};
+ghost use Rattle.std.specs.Iterator.{YieldsFirstBy, item_count};
+ghost use Rattle.workspace.specs.Blocks.{block_rows};
+ghost use Rattle.workspace.specs.Rows.{row_of, rows_left};
+
+use crate::block::Block;
+use view::Masked;
+
+/// Goes over the rows of a block, in their order.
+#[derive(Drop)]
+pub struct Rows<'w> {
+    pub(crate) work: &'w [Masked],
+    pub(crate) left: Block,
+}
+
+impl Block {
+    /// The rows of the block.
+    pub fn rows<'w>(&self, work: &'w [Masked]) -> Rows<'w>
+        ensures { rows_left result ≡ block_rows work.now self.now }
+    {
+        Rows { work, left: *self }
+    }
+}
+
+impl<'w> Iterator for Rows<'w> {
+    type Item = &'w [Masked];
+
+    ghost next_gives = { YieldsFirstBy row_of rows_left };
+
+    ghost remaining = { item_count rows_left };
+
+    #[tactic(auto, using(crate::proofs::Reading::length_rows, crate::proofs::Reading::rows_none))]
+    fn next(&mut self) -> Option<&'w [Masked]> {
+        let block = self.left;
+        if block.count == 0 {
+            return None;
+        }
+        self.left = Block {
+            first: block.first + 1,
+            count: block.count - 1,
+            width: block.width,
+        };
+        Some(block.row(self.work, 0))
+    }
+}
