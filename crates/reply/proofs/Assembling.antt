@@ -1,5 +1,5 @@
 -- A reply is its counts, its certain rows and its possible rows.
-use Rattle.std.proofs.Common.{◌≡◌, ℕ, ◌+◌, List, ◌++◌, length, drop, ap, arith}
+use Rattle.std.proofs.Common.{◌≡◌, ◌+◌, ◌≤◌, List, ◌++◌, length, ap, arith}
 use Rattle.std.specs.List.{flat_map}
 use Rattle.std.proofs.lemmas.List.{length-append}
 use Rattle.semantics.specs.Bytes.{two_bytes, record_bytes}
@@ -8,7 +8,7 @@ use Rattle.view.specs.declared.masked.Masked.{Masked}
 use Rattle.workspace.specs.declared.block.Block.{Block}
 use Rattle.workspace.specs.Blocks.{block_rows}
 use Rattle.workspace.proofs.Reading.{length_rows}
-use Rattle.reply.specs.Writing.{over, Put}
+use Rattle.reply.proofs.Sizes.{rows_low}
 
 module _ (work : List Masked) (certain possible : Block) where
   pub reply_parts : reply_bytes (block_rows work certain) (block_rows work possible)
@@ -30,10 +30,8 @@ module _ (work : List Masked) (certain possible : Block) where
       let b = length-append (counts ++ sure) maybe in
       omega arith
 
--- bytes written at the start
-pub at-start : (s bytes u : List ℕ) (n : ℕ) → Put s 0 bytes u n → (n ≡ length bytes) × (u ≡ bytes ++ drop n s)
-unfolding over
-at-start s bytes u n p =
-    let e : n ≡ length bytes = omega (arith, p.ends) in
-    let z : 0 + length bytes ≡ n = omega (arith, p.ends) in
-    (e, cc p.holds)
+  pub reply_low : length (reply_bytes (block_rows work certain) (block_rows work possible)) ≤ 2580488
+  reply_low =
+      let c = rows_low 0x21 work certain in
+      let p = rows_low 0x22 work possible in
+      omega (arith, reply_length_lem, certain.low, possible.low)

@@ -1,30 +1,21 @@
 -- The bytes of several things, one after another.
-use Rattle.std.proofs.Common.{◌≡◌, ℕ, ◌+◌, ◌<◌, ◌≤◌, List, [], ◌∷◌, ◌++◌, length, get_or, take, drop, refl, ap, arith}
+use Rattle.std.proofs.Common.{◌≡◌, ℕ, ◌+◌, ◌<◌, ◌≤◌, List, [], ◌++◌, length, get_or, take, ap}
 use Rattle.std.specs.List.{flat_map}
-use Rattle.std.proofs.lemmas.List.{append_assoc, append-nil, length-append, take-append-drop, take_more}
+use Rattle.std.proofs.lemmas.List.{take_more, take_all, flat_map_more}
+use Rattle.std.proofs.lemmas.List.Folds.{length-flat_map-take}
 
-module _ {X : Type 0} (f : X → List ℕ) where
-  joined_append : (xs ys : List X) → flat_map f (xs ++ ys) ≡ flat_map f xs ++ flat_map f ys
-  joined_append [] ys = refl
-  joined_append (x ∷ xs) ys =
-      let e = joined_append xs ys in
-      let a = append_assoc (f x) (flat_map f xs) (flat_map f ys) in
-      cc
+module _ {X : Type 0} (f : X → List ℕ) (xs : List X) (i : ℕ) where
+  module _ (d x : X) (h : i < length xs) (e : x ≡ get_or xs i d) where
+    -- one more
+    pub joined_step : flat_map f (take i xs) ++ f x ≡ flat_map f (take (i + 1) xs)
+    joined_step =
+        let t = take_more xs i d h in
+        let m = flat_map_more f [] (take i xs) x in
+        cc
 
-  -- one more
-  pub joined_step : (xs : List X) (i : ℕ) (d x : X) → i < length xs → x ≡ get_or xs i d → flat_map f (take (i + 1) xs) ≡ flat_map f (take i xs) ++ f x
-  joined_step xs i d x h e =
-      let t = take_more xs i d h in
-      let a = joined_append (take i xs) (get_or xs i d ∷ []) in
-      let n = append-nil (f (get_or xs i d)) in
-      cc
+    -- the first ones and the next are no longer than all
+    pub joined_fits : length (flat_map f (take i xs)) + length (f x) ≤ length (flat_map f xs)
+    joined_fits = rw e (length-flat_map-take f xs i d h)
 
-  -- the first ones and the next are no longer than all
-  pub joined-fits : (xs : List X) (i : ℕ) (d x : X) → i < length xs → x ≡ get_or xs i d → length (flat_map f (take i xs)) + length (f x) ≤ length (flat_map f xs)
-  joined-fits xs i d x h e =
-      let a = ap length (joined_step xs i d x h e) in
-      let b = length-append (flat_map f (take i xs)) (f x) in
-      let t = ap (λ ys. length (flat_map f ys)) (take-append-drop (i + 1) xs) in
-      let j = ap length (joined_append (take (i + 1) xs) (drop (i + 1) xs)) in
-      let l = length-append (flat_map f (take (i + 1) xs)) (flat_map f (drop (i + 1) xs)) in
-      omega (arith, a, b, t, j, l)
+  pub joined_all : length xs ≤ i → flat_map f (take i xs) ≡ flat_map f xs
+  joined_all h = ap (flat_map f) (take_all i xs h)

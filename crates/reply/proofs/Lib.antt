@@ -1,5 +1,5 @@
-pub mod Overwriting
 pub mod Joining
 pub mod RowCells
 pub mod BlockRows
+pub mod Sizes
 pub mod Assembling

@@ -2,12 +2,16 @@
 
 #![tactic(auto)]
 
+mod count;
+mod kinds;
+mod record;
 mod refusal;
 mod reply;
-mod size;
+mod row;
+mod sink;
 #[cfg(test)]
 mod tests;
-mod write;
+mod writer;
 
 pub use refusal::refusal_record;
 pub use reply::write_reply;
