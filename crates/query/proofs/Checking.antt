@@ -21,7 +21,7 @@ use Rattle.query.specs.Saying.{First, first_said, Says, Short}
 use Rattle.query.specs.declared.step.Step.{Step}
 use Rattle.query.specs.declared.plan.Position.{Position}
 use Rattle.query.specs.Plans.{StepIs, record_at}
-use Rattle.query.proofs.Going.{first-less}
+use Rattle.query.proofs.Firsts.{first-less}
 use Rattle.semantics.specs.Conditions.{Condition}
 use Rattle.semantics.specs.Reading.{condition_form}
 use Rattle.semantics.specs.Bytes.{cut, from_two}

@@ -4,6 +4,6 @@ pub mod Depths
 pub mod Steps
 pub mod Reading
 pub mod Widths
-pub mod Going
+pub mod Leading
 pub mod Laying
 pub mod Checking

@@ -1,5 +1,5 @@
 -- One step of a walk over condition records.
-use Rattle.std.proofs.Common.{◌≡◌, ℕ, suc, ◌+◌, ◌<◌, ◌≤◌, true, false, eqb, List, [], ◌∷◌, length, Some, None, Option, sym, refl, ap, ◌∙◌, arith}
+use Rattle.std.proofs.Common.{◌≡◌, ℕ, zero, suc, ◌+◌, ◌<◌, ◌≤◌, true, false, eqb, List, [], ◌∷◌, length, Some, None, Option, sym, refl, ap, ◌∙◌, arith}
 use Rattle.std.proofs.lemmas.Bool.{eq-eqb, ne_eqb}
 use Rattle.semantics.specs.declared.refusal.Refusal.{Refusal}
 use Rattle.semantics.specs.Bytes.{First, first_record}
@@ -38,6 +38,13 @@ module _ (e : Refusal) where
   unfolding walk
   walk_end m n stack [] h = refl
   walk_end m n stack (b ∷ bytes) h = absurd (omega arith)
+
+  -- where the first of those that remain is no term
+  pub walk_stop : (m n : ℕ) (stack : List Condition) (bytes : List ℕ) → 0 < length bytes → first_term e bytes ≡ refuse e → walk (term_faults e) (term_step e) m n stack bytes ≡ refuse e
+  walk_stop zero n stack bytes h f = walk-many zero n stack bytes refl h
+  walk_stop (suc more) n stack bytes h f =
+      walk-term (suc more) more n stack bytes refl h
+      ∙ ap (λ o. and_then o (λ (t : FirstTerm). and_then (combined e t.term stack) (λ next. walk (term_faults e) (term_step e) more (n + 1) next t.rest))) f
 
   pub single-decided : (stack : List Condition) (d : ℕ) (o : Outcome Condition) → length stack ≡ d → single e stack ≡ o → Decided (eqb d 1) e o
   single-decided [] d o l h = let t : eqb d 1 ≡ false = ne_eqb d 1 (λ z. omega arith) in rw t (sym h)

@@ -1,14 +1,16 @@
 -- What the code reads from condition records.
-use Rattle.std.specs.Prelude.{◌≡◌, ℕ, Bool, true, List, length, Some, None, Option}
+use Rattle.std.specs.Prelude.{◌≡◌, ℕ, zero, suc, Bool, true, List, [], ◌∷◌, length, Some, None, Option}
 use Rattle.std.specs.Borrow.{Bor}
 use Rattle.semantics.specs.declared.refusal.Refusal.{Refusal}
+use Rattle.semantics.specs.declared.refusal.Refusal.TheVariants.{WrongForm}
 use Rattle.semantics.specs.Bytes.{first_record}
 use Rattle.semantics.specs.Conditions as conditions
 use Rattle.semantics.specs.Conditions.{Condition}
-use Rattle.semantics.specs.Outcomes.{Outcome, done, refuse, found, and_then}
+use Rattle.semantics.specs.Outcomes.{Outcome, refused, done, refuse, found, and_then}
 use Rattle.semantics.specs.Reading.{term_form}
 use Rattle.query.specs.declared.term.Term.{Term}
 use Rattle.query.specs.declared.term.Term.TheVariants.{ByColumn, ByNumber, ByPrefix, And, Or, Not}
+use Rattle.query.specs.declared.terms.Terms.{Terms}
 
 -- The term that a structure of the code stands for.
 abbrev pub term_of : Term → conditions.Term
@@ -45,6 +47,24 @@ first_term e bytes =
 abbrev pub FirstTermIs : Refusal → Option (Term × Bor (List ℕ)) → Outcome FirstTerm → Type 0
 FirstTermIs e (Some p) o = o ≡ done (record { term = term_of p.0; rest = p.1.now })
 FirstTermIs e None o = o ≡ refuse e
+
+-- A first term and those that `others` finds after it, or none where there is no first one.
+abbrev pub first_and : (List ℕ → List conditions.Term) → Outcome FirstTerm → List conditions.Term
+first_and others (refused n p) = []
+first_and others (done t) = t.term ∷ others t.rest
+
+-- The terms that stand one after another at the beginning of some bytes, at most `more` of them.
+unfoldable pub leading : ℕ → List ℕ → List conditions.Term
+leading zero bytes = []
+leading (suc more) bytes = first_and (leading more) (first_term (WrongForm 0) bytes)
+
+-- All the terms that stand there: no more than there are bytes.
+unfoldable pub terms_in : List ℕ → List conditions.Term
+terms_in bytes = leading (length bytes) bytes
+
+-- The terms that the code has still to go over.
+abbrev pub terms_left : Terms → List conditions.Term
+terms_left t = terms_in t.rest.now
 
 -- How many conditions are on the stack after a term, or that it is refused with `e`.
 abbrev pub DepthIs : Refusal → Option ℕ → Outcome (List Condition) → Type 0

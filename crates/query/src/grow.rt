@@ -11,11 +11,11 @@ ghost use Rattle.book.specs.Books.{book_model};
 ghost use Rattle.query.specs.Plans.{Plans, laid, asked, Grew, StepIs, SidesIs, lone};
 ghost use Rattle.query.specs.Saying.{first_said, Says, Short};
 
-use crate::condition::{all_fitting, all_named};
 use crate::kinds::Kinds;
 use crate::plan::{Plan, Position};
 use crate::record::Record;
 use crate::step::Step;
+use crate::terms::Terms;
 use book::Book;
 use semantics::Refusal;
 
@@ -52,10 +52,10 @@ impl Plan {
         }
         let kinds = self.kinds[number - 1];
         let position = self.positions[number - 1];
-        if !all_named(body, &kinds) {
+        if !Terms::of(body).all(|term| term.is_named(&kinds)) {
             return Err(Refusal::NoSuchName(place));
         }
-        if !all_fitting(body, &kinds) {
+        if !Terms::of(body).all(|term| term.is_fitting(&kinds)) {
             return Err(Refusal::Unfit(place));
         }
         Ok(Step {

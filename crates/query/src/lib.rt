@@ -13,9 +13,11 @@ mod reader;
 mod record;
 mod step;
 mod term;
+mod terms;
 
 pub use kinds::Kinds;
 pub use plan::{Plan, Position};
 pub use questions::check;
 pub use record::Record;
 pub use term::{Term, first_term};
+pub use terms::Terms;

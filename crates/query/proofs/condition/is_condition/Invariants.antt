@@ -6,10 +6,7 @@ use Rattle.semantics.specs.Walks.{walk}
 use Rattle.query.proofs.condition.is_condition.Given as goal
 
 -- some stack as deep as `depth` goes on to what the whole body is read as
-abbrev pub invariant-loop-rest : goal.invariant-loop-rest
-invariant-loop-rest l =
-    (l.count ≤ 15) × (l.depth ≤ l.count) ×
-    ((e : Refusal) → (stack : List Condition) × (length stack ≡ l.depth) × (walk (term_faults e) (term_step e) (15 - l.count) l.count stack l.rest ≡ condition_form e l.body))
-
-abbrev pub decreases-loop-rest : goal.decreases-loop-rest
-decreases-loop-rest l = 15 - l.count
+abbrev pub invariant-loop : goal.invariant-loop
+invariant-loop l =
+    (l.depth ≤ l.counter) ×
+    ((e : Refusal) → (stack : List Condition) × (length stack ≡ l.depth) × (walk (term_faults e) (term_step e) (15 - l.counter) l.counter stack l.rest ≡ condition_form e l.body))
