@@ -9,7 +9,7 @@ ghost use Rattle.compare.specs.Truths.{truth_of};
 
 use crate::kleene::Truth;
 use crate::stack::Truths;
-use query::first_term;
+use query::Terms;
 use view::Masked;
 
 /// What is known of a condition, the body of a select, on a row.
@@ -17,10 +17,8 @@ pub fn truth(condition: &[u8], row: &[Masked]) -> Truth
     ensures { (e : Refusal) (c : Condition) → condition_form e condition.now ≡ done c → truth_of result ≡ truth c (map masked_of row.now) }
 {
     let mut truths = Truths::none();
-    let mut rest = condition;
-    while let Some((term, behind)) = first_term(rest) {
+    for term in Terms::of(condition) {
         truths.step(term, row);
-        rest = behind;
     }
     truths.pop()
 }

@@ -1,6 +1,6 @@
 //! Records and conditions in words.
 
-use query::{Record, Term, first_term};
+use query::{Record, Term, Terms};
 use semantics::{Kind, Operator};
 use std::alloc::{AllocError, Global};
 
@@ -107,14 +107,9 @@ fn term(heap: Global, stack: &mut Vec<Words>, said: Term<'_>) -> Result<Words, A
 /// The condition of a select.
 fn condition(heap: Global, body: &[u8]) -> Result<String, AllocError> {
     let mut stack = Vec::new(heap);
-    let mut rest = body;
-    for _ in 0..15 {
-        let Some((said, behind)) = first_term(rest) else {
-            break;
-        };
+    for said in Terms::of(body) {
         let words = term(heap, &mut stack, said)?;
         stack.push(words)?;
-        rest = behind;
     }
     match stack.pop() {
         None => Ok(String::new(heap)),

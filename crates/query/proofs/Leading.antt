@@ -10,7 +10,7 @@ use Rattle.semantics.specs.Bytes.{First, first_record}
 use Rattle.semantics.specs.Conditions.{Comparison, by_prefix, Condition, compared, conjunction, disjunction, negation, Term, comparing, conjoining, disjoining, negating, terms, every_comparison}
 use Rattle.semantics.specs.Lists.{every}
 use Rattle.semantics.specs.Operators.{operator_from}
-use Rattle.semantics.specs.Outcomes.{Outcome, refused, done, refuse, question, found, and_then}
+use Rattle.semantics.specs.Outcomes.{Outcome, refused, done, refuse, found, and_then}
 use Rattle.semantics.specs.Reading.{empty_form, column_side, number_side, prefix_side, comparison_form, term_form, combined, term_step, term_faults, condition_form}
 use Rattle.semantics.specs.Values.{is_digit}
 use Rattle.semantics.specs.Walks.{single, walk}
@@ -57,7 +57,6 @@ module _ (p : Comparison → Bool) where
   every-terms (conjunction c d) = every_two c d conjoining refl (every-terms c) (every-terms d)
   every-terms (disjunction c d) = every_two c d disjoining refl (every-terms c) (every-terms d)
   every-terms (negation c) = every-terms c ∙ sym (every-last (passes p) (terms c) negating refl)
-
 
 -- What is read does not depend on the refusal of what is not.
 module _ (e f : Refusal) where
@@ -156,7 +155,6 @@ module _ (e : Refusal) where
   single-is (x ∷ []) c h = cc
   single-is (x ∷ (y ∷ stack)) c h = absurd (refuse_not e c h)
 
-
 -- The first of the terms and those after it, or none.
 leading-some : (more : ℕ) (bytes : List ℕ) (t : FirstTerm) → first_term (WrongForm 0) bytes ≡ done t → leading (suc more) bytes ≡ t.term ∷ leading more t.rest
 unfolding leading
@@ -166,7 +164,6 @@ leading-none : (more : ℕ) (bytes : List ℕ) (n p : ℕ) → first_term (Wrong
 unfolding leading
 leading-none zero bytes n p h = refl
 leading-none (suc more) bytes n p h = ap (first_and (leading more)) h
-
 
 ways : {X : Type 0} (o : Outcome X) → ((x : X) × (o ≡ done x)) ⊎ ((n : ℕ) × (p : ℕ) × (o ≡ refused n p))
 ways (refused n p) = inr (n, p, refl)

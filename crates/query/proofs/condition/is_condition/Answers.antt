@@ -1,7 +1,7 @@
 use Rattle.std.proofs.Common.{◌≡◌, ◌+◌, ◌-◌, ◌≤◌, ◌<◌, [], length, sym, refl, ap, ◌∙◌, arith}
 use borrow.Author.Tests.{eqb-true, eqb-false}
 use Rattle.semantics.specs.declared.refusal.Refusal.TheVariants.{QueryLength}
-use Rattle.semantics.specs.Outcomes.{and_then, refuse}
+use Rattle.semantics.specs.Outcomes.{and_then}
 use Rattle.semantics.specs.Reading.{condition_form, term_step, term_faults}
 use Rattle.semantics.specs.Walks.{walk}
 use Rattle.query.specs.Terms.{term_of}
@@ -55,6 +55,6 @@ returns-else-is_empty c e =
     rw c.if-is_empty.false
     (sym i.2
     ∙ elim c.loop-test.branch [
-      else-loop-test w ↦ walk-many e (15 - c.loop.counter) c.loop.counter i.0 c.loop.rest.now (omega arith) some
+      | else-loop-test w ↦ walk-many e (15 - c.loop.counter) c.loop.counter i.0 c.loop.rest.now (omega arith) some
       | then-loop-test+in_default w ↦ walk_stop e (15 - c.loop.counter) c.loop.counter i.0 c.loop.rest.now some (w.in_default.ensures e)
     ])

@@ -1,6 +1,5 @@
-use Rattle.std.proofs.Common.{rules, ap, length, arith}
+use Rattle.std.proofs.Common.{ap, length, arith}
 use Rattle.semantics.specs.declared.refusal.Refusal.TheVariants.{WrongForm}
-use Rattle.query.specs.Terms.{term_of, terms_in}
 use Rattle.query.proofs.Leading.{terms-some, terms-none}
 use Rattle.query.proofs.terms.TermsIterator.next.Goals as goal
 
