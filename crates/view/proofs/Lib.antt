@@ -3,3 +3,4 @@ pub mod Books
 pub mod Finding
 pub mod Order
 pub mod Drawing
+pub mod Same

@@ -12,5 +12,5 @@ mod read;
 mod tests;
 mod view;
 
-pub use masked::Masked;
+pub use masked::{Masked, cell_at};
 pub use view::View;

@@ -1,7 +1,7 @@
-use crate::masked::Masked;
+use crate::masked::{Masked, cell_at};
 use crate::view::View;
 use book::{Book, Draft};
-use cells::Cell;
+use cells::{Cell, Prefix};
 use policy::Policy;
 use semantics::{Mark, Refusal};
 use std::test::Fail;
@@ -125,5 +125,45 @@ fn tables_without_rows_or_columns(rt: HostRuntime) -> Result<(), Fail> {
     assert_eq!(rt; view.width(1), 0);
     assert_eq!(rt; view.width(4), 0);
     assert_eq!(rt; seen(&view, 2, 0, 0), (9, 0, 0));
+    Ok(())
+}
+
+#[test]
+fn cells_as_a_person_reads_them(rt: HostRuntime) -> Result<(), Fail> {
+    let number = Masked::Value(Cell::Number(47));
+    let prefix = Masked::Value(Cell::Prefix(Prefix::from_bytes(b"0049")?));
+    let variable = Masked::Variable {
+        table: 255,
+        row: 255,
+        column: 255,
+    };
+    let pseudonym = Masked::Pseudonym {
+        domain: 15,
+        index: 65535,
+    };
+    let text = format!(in rt.alloc();
+        "[{number:>4}][{prefix:<6}][{variable}][{variable:>14}][{pseudonym:>9}]"
+    )?;
+    assert_eq!(rt;
+        text.as_str(),
+        "[  47][0049  ][?255.255.255][  ?255.255.255][ 15#65535]"
+    );
+    Ok(())
+}
+
+#[test]
+fn cells_are_compared(rt: HostRuntime) -> Result<(), Fail> {
+    let a = Masked::Value(Cell::Number(1));
+    let p = Masked::Pseudonym {
+        domain: 1,
+        index: 1,
+    };
+    let q = Masked::Pseudonym {
+        domain: 2,
+        index: 1,
+    };
+    assert!(rt; a == cell_at(&[p, a], 1));
+    assert!(rt; p != q && p != a);
+    assert!(rt; cell_at(&[p], 1) == Masked::Value(Cell::Number(0)));
     Ok(())
 }
