@@ -1,6 +1,5 @@
 //! Asking a query: once for its counts, or many times for the time that it takes.
 
-use crate::build::Query;
 use crate::times::Times;
 use answer::answer;
 use anyhow::anyhow;
@@ -12,6 +11,7 @@ use std::alloc::{AllocError, Global};
 use std::time::Instant;
 use view::{Masked, View};
 use workspace::clear;
+use writing::Query;
 
 /// At most so many rounds are timed.
 const ROUNDS: usize = 10_000;

@@ -4,7 +4,6 @@
 #![tactic(auto)]
 
 mod ask;
-mod build;
 mod data;
 mod marks;
 mod queries;

@@ -1,9 +1,9 @@
 //! The queries, each with the certain and possible rows that it has, and why.
 
-use crate::build::Query;
 use query::Term;
 use semantics::Operator;
-use std::alloc::{AllocError, Global};
+use std::alloc::Global;
+use writing::{Query, WriteError};
 
 /// The column of a tariff's price.
 const PRICE: u8 = 1;
@@ -13,7 +13,7 @@ const CARRIER: u8 = 2;
 
 /// Tariffs of the carriers 0 to 3, where even columns are shown: 4 carriers of 16 rows each, so 64
 /// certain.
-pub(crate) fn select(heap: Global) -> Result<Query, AllocError> {
+pub(crate) fn select(heap: Global) -> Result<Query, WriteError> {
     let mut query = Query::new(heap);
     query.table(2)?;
     query.select(&[Term::ByNumber(Operator::Less, CARRIER, 4)])?;
@@ -23,7 +23,7 @@ pub(crate) fn select(heap: Global) -> Result<Query, AllocError> {
 /// Tariffs with a carrier below 8 and a price below 2000, or not with a carrier below 12, where prices
 /// are hidden. Carriers 0 to 7: the price is unknown, so 8 x 16 = 128 possible. Carriers 8 to 11: none.
 /// Carriers 12 to 15: 4 x 16 = 64 certain.
-pub(crate) fn conditions(heap: Global) -> Result<Query, AllocError> {
+pub(crate) fn conditions(heap: Global) -> Result<Query, WriteError> {
     let mut query = Query::new(heap);
     query.table(2)?;
     query.select(&[
@@ -38,7 +38,7 @@ pub(crate) fn conditions(heap: Global) -> Result<Query, AllocError> {
 }
 
 /// The carriers of all tariffs, where they are shown: 16 certain, and 240 repeats.
-pub(crate) fn project(heap: Global) -> Result<Query, AllocError> {
+pub(crate) fn project(heap: Global) -> Result<Query, WriteError> {
     let mut query = Query::new(heap);
     query.table(2)?;
     query.project(&[CARRIER])?;
@@ -47,7 +47,7 @@ pub(crate) fn project(heap: Global) -> Result<Query, AllocError> {
 
 /// Each tariff of carrier 0 followed by each of the carriers 0 and 1, where they are shown: 16 x 32 = 512
 /// certain, as many as a workspace holds.
-pub(crate) fn product(heap: Global) -> Result<Query, AllocError> {
+pub(crate) fn product(heap: Global) -> Result<Query, WriteError> {
     let mut query = Query::new(heap);
     query.table(2)?;
     query.select(&[Term::ByNumber(Operator::Less, CARRIER, 1)])?;
@@ -58,14 +58,14 @@ pub(crate) fn product(heap: Global) -> Result<Query, AllocError> {
 }
 
 /// Adds the tariffs whose prefix covers 25512345.
-fn add_covering(query: &mut Query) -> Result<(), AllocError> {
+fn add_covering(query: &mut Query) -> Result<(), WriteError> {
     query.table(2)?;
     query.select(&[Term::ByPrefix(Operator::Covers, 0, b"25512345")])
 }
 
 /// The tariffs with the longest prefix that covers 25512345, where prefixes are shown. The rows 2, 25
 /// and 255 have a prefix that covers it, of which 2 and 25 are shorter than another: 1 certain.
-pub(crate) fn longest(heap: Global) -> Result<Query, AllocError> {
+pub(crate) fn longest(heap: Global) -> Result<Query, WriteError> {
     let mut query = Query::new(heap);
     add_covering(&mut query)?;
     add_covering(&mut query)?;
@@ -79,7 +79,7 @@ pub(crate) fn longest(heap: Global) -> Result<Query, AllocError> {
 
 /// The rows of tables 0 and 1, where all is shown. Rows with the same key are identical, so the 8 shared
 /// keys count once: 256 + 256 - 8 = 504 certain.
-pub(crate) fn union(heap: Global) -> Result<Query, AllocError> {
+pub(crate) fn union(heap: Global) -> Result<Query, WriteError> {
     let mut query = Query::new(heap);
     query.table(0)?;
     query.table(1)?;
@@ -93,7 +93,7 @@ pub(crate) fn union(heap: Global) -> Result<Query, AllocError> {
 /// table 1, and so not certain. Where odd columns are hidden they are identical to no row, so they are
 /// possible. Where all is shown, or even columns are linked, they are identical to the row of their key,
 /// so they are not even possible. No key of table 3 is in table 0.
-pub(crate) fn differences(heap: Global) -> Result<Query, AllocError> {
+pub(crate) fn differences(heap: Global) -> Result<Query, WriteError> {
     let mut query = Query::new(heap);
     query.table(0)?;
     for turn in 0..7 {
@@ -109,7 +109,7 @@ pub(crate) fn differences(heap: Global) -> Result<Query, AllocError> {
 /// union are certain: 504 in the first book, 512 in the second, which has no repeats. No column by itself
 /// tells: for each pair of rows the cells are put into groups, and the last two cells decide. Six times
 /// makes 15 records and 6 x 512 x 256 = 786,432 pairs of rows, the most that a query can have.
-pub(crate) fn grouped(heap: Global, times: usize) -> Result<Query, AllocError> {
+pub(crate) fn grouped(heap: Global, times: usize) -> Result<Query, WriteError> {
     let mut query = Query::new(heap);
     query.table(0)?;
     query.table(1)?;

@@ -1,6 +1,5 @@
 //! Queries over the three tariffs, and their certain and possible rows.
 
-use crate::build::Query;
 use crate::filters::filters;
 use crate::{show, store};
 use answer::answer;
@@ -9,8 +8,9 @@ use book::{Book, Draft};
 use cells::Cell;
 use query::{Term, check};
 use semantics::{Operator, Refusal};
-use std::alloc::{AllocError, Global};
+use std::alloc::Global;
 use view::{Masked, View};
+use writing::{Query, WriteError};
 
 /// The columns of the tariffs: a prefix in domain 1, the carrier's number and the price.
 fn columns() -> Result<Draft, Refusal> {
@@ -29,7 +29,7 @@ fn fill(book: &mut Book<'_>) -> Result<(), Refusal> {
 }
 
 /// Some columns of all tariffs.
-fn projected(heap: Global, columns: &[u8]) -> Result<Query, AllocError> {
+fn projected(heap: Global, columns: &[u8]) -> Result<Query, WriteError> {
     let mut query = Query::new(heap);
     query.table(0)?;
     query.project(columns)?;
@@ -37,20 +37,20 @@ fn projected(heap: Global, columns: &[u8]) -> Result<Query, AllocError> {
 }
 
 /// Adds the tariffs whose prefix covers 47110.
-fn add_covering(query: &mut Query) -> Result<(), AllocError> {
+fn add_covering(query: &mut Query) -> Result<(), WriteError> {
     query.table(0)?;
     query.select(&[Term::ByPrefix(Operator::Covers, 0, b"47110")])
 }
 
 /// The tariffs whose prefix covers 47110.
-fn covering(heap: Global) -> Result<Query, AllocError> {
+fn covering(heap: Global) -> Result<Query, WriteError> {
     let mut query = Query::new(heap);
     add_covering(&mut query)?;
     Ok(query)
 }
 
 /// The tariffs whose prefix covers 47110, less those of them with a shorter prefix than another.
-fn longest(heap: Global) -> Result<Query, AllocError> {
+fn longest(heap: Global) -> Result<Query, WriteError> {
     let mut query = Query::new(heap);
     add_covering(&mut query)?;
     add_covering(&mut query)?;
@@ -63,7 +63,7 @@ fn longest(heap: Global) -> Result<Query, AllocError> {
 }
 
 /// The tariffs whose prefix is equal to itself.
-fn reflexive(heap: Global) -> Result<Query, AllocError> {
+fn reflexive(heap: Global) -> Result<Query, WriteError> {
     let mut query = Query::new(heap);
     query.table(0)?;
     query.select(&[Term::ByColumn(Operator::Equal, 0, 0)])?;

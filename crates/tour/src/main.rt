@@ -3,7 +3,6 @@
 #![tactic(auto)]
 
 mod answers;
-mod build;
 mod filters;
 mod read;
 mod show;

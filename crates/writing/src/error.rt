@@ -1,0 +1,42 @@
+ghost use Rattle.std.specs.Prelude.{◌≡◌};
+ghost use Rattle.writing.specs.declared.error.WriteError.TheVariants.{OutOfMemory};
+
+use std::alloc::{AllocError, AllocFailed};
+use std::error::Error;
+use std::fmt;
+
+/// Why a record is not written.
+#[derive(Clone, Copy, PartialEq, Eq, Debug)]
+pub enum WriteError {
+    /// Its body is longer than 65,535 bytes.
+    TooLong,
+    /// There is no memory for it.
+    OutOfMemory,
+}
+
+impl fmt::Display for WriteError {
+    fn fmt<W: fmt::Write>(&self, f: &mut fmt::Formatter<W>) -> fmt::Result {
+        match self {
+            WriteError::TooLong => write!(f, "a record is longer than 65,535 bytes"),
+            WriteError::OutOfMemory => write!(f, "out of memory"),
+        }
+    }
+}
+
+impl Error for WriteError {}
+
+impl From<AllocError> for WriteError {
+    ghost from_gives = { λ _ e. e ≡ OutOfMemory };
+
+    fn from(_error: AllocError) -> WriteError {
+        WriteError::OutOfMemory
+    }
+}
+
+impl<T: Drop> From<AllocFailed<T>> for WriteError {
+    ghost from_gives = { λ _ e. e ≡ OutOfMemory };
+
+    fn from(_failed: AllocFailed<T>) -> WriteError {
+        WriteError::OutOfMemory
+    }
+}
