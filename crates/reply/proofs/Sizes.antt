@@ -1,8 +1,8 @@
--- How long the parts of a reply are at most.
-use Rattle.std.proofs.Common.{ℕ, ◌+◌, ◌*◌, ◌≤◌, List, [], ◌∷◌, map, length, take, drop, arith, length-append}
+-- How long the parts of a reply are.
+use Rattle.std.proofs.Common.{◌≡◌, ℕ, ◌+◌, ◌*◌, ◌<◌, ◌≤◌, List, [], ◌∷◌, map, length, get_or, take, drop, ap, arith, length-append}
 use Rattle.std.specs.List.{flat_map, range_with_len}
 use Rattle.std.proofs.lemmas.List.{length-take}
-use Rattle.std.proofs.lemmas.List.Folds.{flat_map-map}
+use Rattle.std.proofs.lemmas.List.Folds.{flat_map-map, length-flat_map-take}
 use Rattle.semantics.proofs.Drawing.{length_joined_counting}
 use Rattle.semantics.specs.Replies.{cell_bytes, row_bytes}
 use Rattle.cells.specs.declared.cell.Cell.TheVariants.{Number, Prefix}
@@ -12,6 +12,17 @@ use Rattle.view.specs.Views.{masked_of}
 use Rattle.workspace.specs.declared.block.Block.{Block}
 use Rattle.workspace.specs.Blocks.{row_at, block_rows}
 
+-- the cells so far and one more are no longer than all
+pub cells_fit : (row : List Masked) (i : ℕ) (x : Masked) → i < length row → x ≡ get_or row i x
+    → length (flat_map cell_bytes (map masked_of (take i row))) + length (cell_bytes (masked_of x)) ≤ length (flat_map cell_bytes (map masked_of row))
+cells_fit row i x h e =
+    let f : Masked → List ℕ = λ c. cell_bytes (masked_of c) in
+    let a = ap length (flat_map-map cell_bytes masked_of (take i row)) in
+    let b = ap length (flat_map-map cell_bytes masked_of row) in
+    let n = ap (λ c. length (f c)) e in
+    omega (arith, length-flat_map-take f row i x h)
+
+-- a cell takes at most 10 bytes, a row 84
 cell_low : (c : Masked) → length (cell_bytes (masked_of c)) ≤ 10
 cell_low (Value (Number n)) = omega arith
 cell_low (Value (Prefix p)) = let t = length-take p.count p.places in omega (arith, p.short)

@@ -53,12 +53,11 @@ fn put_row<S: Sink>(to: &mut S, kind: RecordKind, row: &[Masked])
 }
 
 /// Puts the rows of a block, each as a record of this kind.
-#[tactic(auto, using(crate::proofs::BlockRows::rows_step, crate::proofs::BlockRows::rows_fit, crate::proofs::BlockRows::rows_all))]
 pub(crate) fn put_rows<S: Sink>(to: &mut S, kind: RecordKind, work: &[Masked], block: Block)
     requires { length (flat_map (row_bytes (kind_number kind)) (block_rows work.now block)) ≤ S.room to.old }
     ensures { S.takes to.old (flat_map (row_bytes (kind_number kind)) (block_rows work.now block)) to.new }
 {
-    for row in 0..block.count {
-        put_row(to, kind, block.row(work, row));
+    for row in block.rows(work) {
+        put_row(to, kind, row);
     }
 }

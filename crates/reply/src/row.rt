@@ -46,7 +46,7 @@ fn put_cell<S: Sink>(to: &mut S, cell: &Masked)
 }
 
 /// Puts the cells of a row, one after another.
-#[tactic(auto, using(crate::proofs::RowCells::cells_step, crate::proofs::RowCells::cells_fit))]
+#[tactic(auto, using(crate::proofs::Sizes::cells_fit))]
 pub(crate) fn put_cells<S: Sink>(to: &mut S, row: &[Masked])
     requires { length (flat_map cell_bytes (map masked_of row.now)) ≤ S.room to.old }
     ensures { S.takes to.old (flat_map cell_bytes (map masked_of row.now)) to.new }

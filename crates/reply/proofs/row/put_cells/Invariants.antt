@@ -6,4 +6,4 @@ use Rattle.reply.proofs.row.put_cells.Given as goal
 
 -- the cells so far are put
 abbrev pub invariant-loop-cell : goal.invariant-loop-cell
-invariant-loop-cell g l = g.S.Sink.takes l.initial.to (flat_map cell_bytes (take l.cell-index (map masked_of l.row))) l.to
+invariant-loop-cell g l = g.S.Sink.takes l.initial.to (flat_map cell_bytes (map masked_of (take l.cell-index l.row))) l.to
