@@ -31,6 +31,7 @@ impl Prefix {
     }
 
     /// The prefix with these digits.
+    // No TryFrom: literals of bytes, of any length, are passed here as they are.
     pub fn from_bytes(bytes: &[u8]) -> Result<Prefix, Refusal>
         ensures { AnswersAs digits_of result (prefix_from bytes.now) }
     {
@@ -44,7 +45,7 @@ impl Prefix {
     pub fn digits(&self) -> &[u8]
         ensures { result.now ≡ digits_of self.now }
     {
-        &self.places[0..self.count as usize]
+        &self.places[..usize::from(self.count)]
     }
 }
 
