@@ -29,6 +29,14 @@ module _ (S : List (List Column)) (ns : List ℕ) (cells : List Cell) (t : ℕ) 
   pub no_rows : 4 ≤ t → rows_of (model_in S ns cells) t ≡ []
   no_rows h = get_or_past (model_in S ns cells).tables t [] (rw (length_tabled (λ t. table_in cells t (width_of S t) (get_or ns t 0)) 4) h)
 
+  -- a table that there is not has none
+  pub count_of : length ns ≡ 4 → length (rows_of (model_in S ns cells) t) ≡ get_or ns t 0
+  count_of four =
+      ⊎_elim
+      (λ (a : t < 4). count_at a)
+      (λ (a : 4 ≤ t). ap length (no_rows a) ∙ sym (get_or_past ns t 0 (omega arith)))
+      (cases_lt t 4)
+
   pub row_at : (r : ℕ) → t < 4 → r < get_or ns t 0 → get_or (rows_of (model_in S ns cells) t) r [] ≡ row_in cells t (width_of S t) r
   row_at r h l = ap (λ rows. get_or rows r []) (rows_at h) ∙ slice_index_or_tabled (row_in cells t (width_of S t)) (get_or ns t 0) r [] l
 

@@ -1,33 +1,44 @@
 -- The questions of a store, and the book after it.
-use Rattle.std.proofs.Common.{◌≡◌, ℕ, ◌+◌, ◌<◌, ◌≤◌, Bool, ltb, ◌⊎◌, List, [], ◌∷◌, ◌++◌, map, length, get_or, take, drop, set, sym, ap, ◌∙◌, inl, inr, ⊎_elim, arith}
+use Rattle.std.proofs.Common.{◌≡◌, ℕ, ◌+◌, ◌<◌, ◌≤◌, Bool, true, false, cond, not, ltb, Option, MatchOption, refl, ◌⊎◌, List, [], ◌∷◌, ◌++◌, map, length, get_or, set, Some, sym, subst, ap, ◌∙◌, inl, inr, arith}
 use lib.Seq.{paste}
-use Rattle.std.proofs.lemmas.List.{drop_more, drop_all, length-map, length-take, length-take-le, get_or-map, get_or-take, get_or-set_same, get_or-set_other}
+use Rattle.std.specs.List.{position, position_from, zip}
+use Rattle.std.proofs.lemmas.Iterator.Adapters.{position_from-zero}
+use Rattle.std.proofs.lemmas.List.{length-map, get_or-map, get_or-set_same, get_or-set_other}
 use Rattle.std.proofs.lemmas.Bool.Decides.{nat_tests}
-use Rattle.semantics.specs.declared.kind.Kind.{Kind}
 use Rattle.semantics.specs.declared.kind.Column.{Column}
 use Rattle.semantics.specs.declared.refusal.Refusal.TheVariants.{WrongWidth, WrongKind, TableFull}
 use Rattle.semantics.specs.Books.{Model, columns_of, rows_of, with_rows, limit_of, fitting, may_store}
 use Rattle.semantics.specs.Kinds.{same_kind}
-use Rattle.semantics.specs.Outcomes.{done, refuse, question, and_then}
+use Rattle.semantics.specs.Outcomes.{Outcome, done, refuse, question, and_then}
 use Rattle.semantics.specs.Values.{Value, kind_of}
 use Rattle.cells.specs.declared.cell.Cell.{Cell}
 use Rattle.cells.specs.declared.cell.Cell.TheVariants.{Number}
 use Rattle.cells.specs.Cells.{cell_value}
-use Rattle.book.specs.declared.columns.Columns.{Columns}
-use Rattle.book.specs.Columns.{listed, columns_in}
 use Rattle.book.specs.Layout.{row_start, cell_at, width_of, row_in, table_in, model_in}
-use Rattle.book.proofs.Listing.{columns-at, width-at}
 use Rattle.book.proofs.Memory.{rows_at, count_at, table_same, put_in, put-out, put_length}
 use Rattle.book.proofs.Tabled.{tabled-is, tabled-more, tabled-set}
 
--- the loop over a row's cells beside their columns
-module _ (columns : List Column) (w : ℕ) (row : List Cell) (i : ℕ) where
-  pub fitting-at : (z : Column) (x : Cell) (k : Kind) (same : Bool) → w ≤ length columns → length row ≡ w → i < w → x ≡ get_or row i x → k ≡ kind_of (cell_value x) → same ≡ same_kind (get_or columns i z).kind k → fitting i (drop i (take w columns)) (drop i (map cell_value row)) ≡ question same (WrongKind i) (fitting (i + 1) (drop (i + 1) (take w columns)) (drop (i + 1) (map cell_value row)))
-  fitting-at z x k same fits all in' read is e =
-      rw (drop_more (take w columns) i z (rw length-take-le in'), drop_more (map cell_value row) i (cell_value x) (simp length-map (omega arith)), get_or-take w columns i z in', get_or-map cell_value row i x (cell_value x) (omega arith), ← read, ← is, ← e)
+-- Is the cell not of its column's kind?
+abbrev pub unfit : Column × Cell → Bool
+unfit p = not (same_kind p.0.kind (kind_of (cell_value p.1)))
 
-  pub fitting-end : (vs : List Value) → w ≤ i → fitting i (drop i (take w columns)) (drop i vs) ≡ done tt
-  fitting-end vs h = rw (drop_all i (take w columns) (simp length-take (omega arith)))
+-- what the place of the first says of the questions of a row
+abbrev Says : ℕ → Option ℕ → Outcome (Unit {0}) → Type 0
+Says end o questions = MatchOption o (questions ≡ done tt) (λ i. (i < end) × (questions ≡ refuse (WrongKind i)))
+
+one_more : (n end : ℕ) (same : Bool) (o : Option ℕ) (rest : Outcome (Unit {0})) → n < end → Says end o rest → Says end (cond (not same) (Some n) o) (question same (WrongKind n) rest)
+one_more n end true o rest l h = h
+one_more n end false o rest l h = (l, refl)
+
+says_from : (n end : ℕ) (columns : List Column) (row : List Cell) → n + length columns ≤ end → Says end (position_from unfit n (zip columns row)) (fitting n columns (map cell_value row))
+says_from n end [] row l = refl
+says_from n end (c ∷ cs) [] l = refl
+says_from n end (c ∷ cs) (x ∷ xs) l =
+    one_more n end (same_kind c.kind (kind_of (cell_value x))) (position_from unfit (n + 1) (zip cs xs)) (fitting (n + 1) cs (map cell_value xs)) (omega arith) (says_from (n + 1) end cs xs (omega arith))
+
+pub says_first : (columns : List Column) (row : List Cell) (o : Option ℕ) → o ≡ position unfit (zip columns row) → Says (length columns) o (fitting 0 columns (map cell_value row))
+says_first columns row o e =
+    subst (λ o. Says (length columns) o (fitting 0 columns (map cell_value row))) (sym (e ∙ position_from-zero unfit (zip columns row))) (says_from 0 (length columns) columns row (omega arith))
 
 -- the questions of the model
 module _ (m : Model) (t : ℕ) (row : List Value) (in' : t < 4) where
@@ -38,19 +49,13 @@ module _ (m : Model) (t : ℕ) (row : List Value) (in' : t < 4) where
   store_on e p = grind (arith, nat_tests)
 
 -- the same, of what the code holds
-module _ (ts : List Columns) (ns : List ℕ) (cells : List Cell) (t : ℕ) (z : Columns) (row : List Cell) (four : length ts ≡ 4) (in' : t < 4) where
-  pub at_width : ((length row ≡ (get_or ts t z).width) → ⊥) ⊎ (length row ≡ 0) → may_store (model_in (columns_in ts) ns cells) t (map cell_value row) ≡ refuse WrongWidth
-  at_width e =
-      let w = width-at ts t z (omega arith) in
-      let l = length-map row cell_value in
-      store_width (model_in (columns_in ts) ns cells) t (map cell_value row) in' (⊎_elim (λ n. inl (λ q. n (omega arith))) (λ q. inr (omega arith)) e)
-
-  pub at_on : length row ≡ (get_or ts t z).width → 0 < length row → may_store (model_in (columns_in ts) ns cells) t (map cell_value row) ≡ and_then (fitting 0 (listed (get_or ts t z)) (map cell_value row)) (λ _. question (ltb (get_or ns t 0) (limit_of (length cells))) TableFull (done tt))
-  at_on e p =
-      let w = width-at ts t z (omega arith) in
-      let l = length-map row cell_value in
-      store_on (model_in (columns_in ts) ns cells) t (map cell_value row) in' (omega arith) (omega arith)
-      ∙ rw (columns-at ts t z (omega arith), count_at (columns_in ts) ns cells t in')
+pub at_on : (S : List (List Column)) (ns : List ℕ) (cells : List Cell) (t : ℕ) (row : List Cell) (columns : List Column) → t < 4 → columns ≡ get_or S t [] → length row ≡ length columns → 0 < length row
+    → may_store (model_in S ns cells) t (map cell_value row) ≡ and_then (fitting 0 columns (map cell_value row)) (λ _. question (ltb (get_or ns t 0) (limit_of (length cells))) TableFull (done tt))
+at_on S ns cells t row columns in' is e p =
+    let l = length-map row cell_value in
+    let w = ap length is in
+    store_on (model_in S ns cells) t (map cell_value row) in' (omega arith) (omega arith)
+    ∙ rw (← is, count_at S ns cells t in')
 
 -- the book after a store: the row stands behind the last
 module _ (S : List (List Column)) (ns : List ℕ) (cells row : List Cell) (t n : ℕ) (narrow : (t : ℕ) → width_of S t ≤ 8) (four : length ns ≡ 4) (in' : t < 4) (is : get_or ns t 0 ≡ n) (wide : length row ≡ width_of S t) (room : n < limit_of (length cells)) where

@@ -26,18 +26,13 @@ impl Book<'_> {
     fn may_amend(&self, table: usize, row: usize, column: usize, cell: Cell) -> Result<(), Refusal>
         ensures { Answers result (may_amend (book_model self.now) table row column (cell_value cell)) }
     {
-        if table >= 4 {
-            return Err(Refusal::NoTable);
-        }
-        if row >= self.rows.counts[table] {
+        let count = self.rows.counts.get(table).ok_or(Refusal::NoTable)?;
+        if row >= *count {
             return Err(Refusal::NoRow);
         }
-        let columns = self.tables[table];
-        if column >= columns.width {
-            return Err(Refusal::NoColumn);
-        }
-        let expected = columns.list[column].kind;
-        if expected != cell.kind() {
+        let columns = self.columns(table);
+        let column = columns.get(column).ok_or(Refusal::NoColumn)?;
+        if column.kind != cell.kind() {
             return Err(Refusal::WrongKind(0));
         }
         Ok(())

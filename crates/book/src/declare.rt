@@ -1,21 +1,22 @@
 ghost use Rattle.std.specs.Prelude.{◌≡◌, ℕ, ◌<◌, List, [], ◌∷◌, ◌++◌, length, IfOk, slice_index_or};
+ghost use Rattle.bounded.specs.Bounded.{items};
 ghost use Rattle.semantics.specs.Drafts.{blank, suits, agree, admits, added, may_declare, declared};
 ghost use Rattle.semantics.specs.Lists.{every};
 ghost use Rattle.semantics.specs.Outcomes.{Answers, Steps, Kept};
-ghost use Rattle.book.specs.Columns.{listed, columns_in, Takes};
+ghost use Rattle.book.specs.Columns.{columns_in, Takes};
 
 use crate::columns::Columns;
 use crate::draft::Draft;
+use bounded::Bounded;
 use semantics::{Column, Kind, Refusal};
 
 /// The columns of a table, none where there is no such table.
 pub(crate) fn columns_of(tables: &[Columns], table: usize) -> &[Column]
     ensures { result.now ≡ slice_index_or (columns_in tables.now) table [] }
 {
-    if table < tables.len() {
-        tables[table].listed()
-    } else {
-        &[]
+    match tables.get(table) {
+        Some(columns) => columns.as_slice(),
+        None => &[],
     }
 }
 
@@ -26,35 +27,22 @@ fn suits(column: Column, kind: Kind, domain: u8) -> bool
     column.domain != domain || column.kind == kind
 }
 
-impl Columns {
-    /// Adds a column at the end.
-    fn push(&mut self, column: Column)
-        requires { self.old.width < 8 }
-        ensures { listed self.new ≡ listed self.old ++ column ∷ [] }
-    {
-        self.list[self.width] = column;
-        self.width += 1;
-    }
+/// Whether every column of this domain has this kind.
+fn all_suit(columns: &Columns, kind: Kind, domain: u8) -> bool
+    ensures { result ≡ every (suits domain kind) (items columns.now) }
+{
+    columns
+        .as_slice()
+        .iter()
+        .all(|column| suits(*column, kind, domain))
+}
 
-    /// The columns.
-    pub(crate) fn listed(&self) -> &[Column]
-        ensures { result.now ≡ listed self.now }
-    {
-        &self.list[0..self.width]
-    }
-
-    /// Whether every column of this domain has this kind.
-    fn agree(&self, kind: Kind, domain: u8) -> bool
-        ensures { result ≡ every (suits domain kind) (listed self.now) }
-    {
-        let columns = self.listed();
-        for column in columns {
-            if !suits(*column, kind, domain) {
-                return false;
-            }
-        }
-        true
-    }
+/// Adds a column to a table that has room.
+fn add_column(tables: &mut [Columns], table: usize, column: Column)
+    requires { (table < length tables.old) × (length (slice_index_or (columns_in tables.old) table []) < 8) }
+    ensures { columns_in tables.new ≡ added (columns_in tables.old) table column }
+{
+    let _ = tables[table].push(column);
 }
 
 impl Draft {
@@ -66,23 +54,19 @@ impl Draft {
             kind: Kind::Number,
             domain: 0,
         };
-        let none = Columns {
-            list: [column; 8],
-            width: 0,
-        };
-        Draft { tables: [none; 4] }
+        Draft {
+            tables: [Bounded::new(column); 4],
+        }
     }
 
     /// Whether every column of this domain, in any table, has this kind.
+    #[tactic(auto, using(semantics::proofs::Every::every_map))]
     fn agree(&self, kind: Kind, domain: u8) -> bool
         ensures { result ≡ agree (columns_in self.now.tables) kind domain }
     {
-        for columns in &self.tables {
-            if !columns.agree(kind, domain) {
-                return false;
-            }
-        }
-        true
+        self.tables
+            .iter()
+            .all(|columns| all_suit(columns, kind, domain))
     }
 
     /// Whether the domain takes a column of this kind.
@@ -97,10 +81,8 @@ impl Draft {
         ensures answers { Answers result (may_declare (columns_in self.now.tables) table kind domain) }
         ensures takes { IfOk result (Takes (columns_in self.now.tables) table) }
     {
-        if table >= 4 {
-            return Err(Refusal::NoTable);
-        }
-        if self.tables[table].width >= 8 {
+        let columns = self.tables.get(table).ok_or(Refusal::NoTable)?;
+        if columns.is_full() {
             return Err(Refusal::TooManyColumns);
         }
         let kind = Kind::try_from(kind)?;
@@ -115,9 +97,7 @@ impl Draft {
         requires { Takes (columns_in self.old.tables) table column }
         ensures { columns_in self.new.tables ≡ added (columns_in self.old.tables) table column }
     {
-        let mut columns = self.tables[table];
-        columns.push(column);
-        self.tables[table] = columns;
+        add_column(&mut self.tables, table, column);
     }
 
     /// Adds a column of this kind and domain at the end of a table.

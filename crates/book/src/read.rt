@@ -29,10 +29,7 @@ impl Book<'_> {
     pub fn row_count(&self, table: usize) -> usize
         ensures { result ≡ length (rows_of (book_model self.now) table) }
     {
-        if table >= 4 {
-            return 0;
-        }
-        self.rows.counts[table]
+        self.rows.counts.get(table).copied().unwrap_or(0)
     }
 
     /// The cells of a row that there is.
@@ -41,7 +38,7 @@ impl Book<'_> {
         ensures { map cell_value result.now ≡ slice_index_or (rows_of (book_model self.now) table) row [] }
     {
         let slot = Slot { table, row };
-        &slot.cells(self.rows.cells)[..self.tables[table].width]
+        &slot.cells(self.rows.cells)[..self.tables[table].len()]
     }
 
     /// The cells of a row, where there is one of this number.

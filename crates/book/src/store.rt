@@ -1,30 +1,36 @@
-ghost use Rattle.std.specs.Prelude.{◌≡◌, ℕ, ◌+◌, ◌<◌, ◌≤◌, map, length, slice_index, slice_set};
+ghost use Rattle.std.specs.Prelude.{◌≡◌, ℕ, ◌+◌, ◌<◌, ◌≤◌, map, length, not, position, slice_index, slice_set, zip};
 ghost use Rattle.std.proofs.Math.Seq.{paste};
 ghost use Rattle.semantics.specs.Books.{limit_of, fitting, may_store, stored};
+ghost use Rattle.semantics.specs.Kinds.{same_kind};
+ghost use Rattle.semantics.specs.Values.{kind_of};
 ghost use Rattle.semantics.specs.Outcomes.{Answers, Steps, Kept, done};
 ghost use Rattle.cells.specs.Cells.{cell_value};
 ghost use Rattle.book.specs.Books.{book_model, memory, UnusedAreZero};
-ghost use Rattle.book.specs.Columns.{listed};
 ghost use Rattle.book.specs.Layout.{row_start};
 
 use crate::book::{Book, Rows};
-use crate::columns::Columns;
 use crate::slot::Slot;
 use cells::Cell;
-use semantics::Refusal;
+use semantics::{Column, Refusal};
 
-impl Columns {
-    /// Whether each cell is of its column's kind; the refusal has the place of the first that is not.
-    fn fitting(&self, row: &[Cell]) -> Result<(), Refusal>
-        requires { length row.now ≡ self.now.width }
-        ensures { Answers result (fitting 0 (listed self.now) (map cell_value row.now)) }
-    {
-        for (i, cell) in row.iter().enumerate() {
-            if self.list[i].kind != cell.kind() {
-                return Err(Refusal::WrongKind(i as u8));
-            }
-        }
-        Ok(())
+/// The place of the first cell that is not of its column's kind.
+fn first_unfit(columns: &[Column], row: &[Cell]) -> Option<usize>
+    ensures { result ≡ position (λ (column, cell). not (same_kind column.kind (kind_of (cell_value cell)))) (zip columns.now row.now) }
+{
+    columns
+        .iter()
+        .zip(row)
+        .position(|(column, cell)| column.kind != cell.kind())
+}
+
+/// Whether each cell is of its column's kind; the refusal has the place of the first that is not.
+fn fitting(columns: &[Column], row: &[Cell]) -> Result<(), Refusal>
+    requires { length columns.now ≤ 8 }
+    ensures { Answers result (fitting 0 columns.now (map cell_value row.now)) }
+{
+    match first_unfit(columns, row) {
+        Some(place) => Err(Refusal::WrongKind(place as u8)),
+        None => Ok(()),
     }
 }
 
@@ -51,14 +57,11 @@ impl Book<'_> {
     fn may_store(&self, table: usize, row: &[Cell]) -> Result<(), Refusal>
         ensures { Answers result (may_store (book_model self.now) table (map cell_value row.now)) }
     {
-        if table >= 4 {
-            return Err(Refusal::NoTable);
-        }
-        let columns = self.tables[table];
-        if row.len() != columns.width || row.len() == 0 {
+        let columns = self.tables.get(table).ok_or(Refusal::NoTable)?;
+        if row.is_empty() || row.len() != columns.len() {
             return Err(Refusal::WrongWidth);
         }
-        columns.fitting(row)?;
+        fitting(columns.as_slice(), row)?;
         if self.rows.counts[table] >= self.row_limit() {
             return Err(Refusal::TableFull);
         }

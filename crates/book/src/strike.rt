@@ -35,10 +35,8 @@ impl Book<'_> {
     fn may_strike(&self, table: usize, row: usize) -> Result<(), Refusal>
         ensures { Answers result (may_strike (book_model self.now) table row) }
     {
-        if table >= 4 {
-            return Err(Refusal::NoTable);
-        }
-        if row >= self.rows.counts[table] {
+        let count = self.rows.counts.get(table).ok_or(Refusal::NoTable)?;
+        if row >= *count {
             return Err(Refusal::NoRow);
         }
         Ok(())

@@ -11,9 +11,10 @@ use Rattle.semantics.proofs.Every.{every_slice_index_or}
 use Rattle.semantics.proofs.Lawful.{rows-within}
 use Rattle.cells.specs.declared.cell.Cell.{Cell}
 use Rattle.cells.specs.Cells.{cell_value}
+use Rattle.bounded.specs.Bounded.{items}
 use Rattle.book.specs.declared.book.Book.{Book}
 use Rattle.book.specs.Books.{book_model, memory}
-use Rattle.book.specs.Columns.{listed, columns_in}
+use Rattle.book.specs.Columns.{columns_in}
 use Rattle.book.proofs.Listing as listing
 use Rattle.book.proofs.Memory.{row-known, row_at}
 use Rattle.book.proofs.Tabled.{length_tabled}
@@ -23,7 +24,7 @@ module _ (b : Book) (t : ℕ) where
   width-le = listing.width-le b.tables t
 
   pub no-columns : 4 ≤ t → columns_of (book_model b) t ≡ []
-  no-columns h = get_or_past (columns_in b.tables) t [] (rw (length-map b.tables listed) (omega (arith, b.four)))
+  no-columns h = get_or_past (columns_in b.tables) t [] (rw (length-map b.tables items) (omega (arith, b.four)))
 
   pub count-le : length (rows_of (book_model b) t) ≤ 256
   count-le = let w = rows-within (book_model b) t b.fitting in omega arith

@@ -1,31 +1,27 @@
-use Rattle.std.proofs.Common.{inl, inr, ⊎_elim, arith}
-use Rattle.std.proofs.lemmas.Result.{err_from_is_err_and}
+use Rattle.std.proofs.Common.{◌<◌, length, sym, ap, ◌∙◌, arith}
 use Rattle.std.proofs.lemmas.Bool.{lt-ltb, le-ltb}
+use Rattle.std.proofs.lemmas.Bool.Decides.{nat_tests}
+use Rattle.bounded.specs.Bounded.{items}
 use Rattle.book.specs.Books.{memory}
-use Rattle.book.proofs.Storing.{at_width, at_on}
+use Rattle.book.specs.Columns.{columns_in}
+use Rattle.book.proofs.Listing.{columns-at}
+use Rattle.book.proofs.Storing.{at_on}
 use Rattle.book.proofs.book.Book.may_store.Goals as goal
-
-pub returns-then-row-columns : goal.returns-then-row-columns
-returns-then-row-columns c =
-    let s = c.args.self.now in
-    at_width s.tables s.rows.counts (memory s) c.args.table c.index-self-table.result c.args.row.now (omega arith) (omega arith)
-    (⊎_elim inl (λ p. inr p.1) c.then-row-columns.either)
-
-pub returns-in_err-fitting : goal.returns-in_err-fitting
-returns-in_err-fitting c =
-    let s = c.args.self.now in
-    let m = at_on s.tables s.rows.counts (memory s) c.args.table c.index-self-table.result c.args.row.now (omega arith) (omega arith) (omega arith) (omega arith) in
-    let p = err_from_is_err_and c.from_residual.result c.from_residual.ensures.1 in
-    rw (p.1, p.2, m, c.in_err-fitting.ensures)
 
 pub returns-then-self-table : goal.returns-then-self-table
 returns-then-self-table c =
     let s = c.args.self.now in
-    let m = at_on s.tables s.rows.counts (memory s) c.args.table c.index-self-table.result c.args.row.now (omega arith) (omega arith) (omega arith) (omega arith) in
+    let found = rw c.in_ok-columns.ensures.ok_part at c.get.ensures.lookup in
+    let is = c.as_slice.ensures.value ∙ ap items found.1 ∙ sym (columns-at s.tables c.args.table _ found.3.0) in
+    let some : 0 < length c.args.row.now = grind (arith, nat_tests) in
+    let m = at_on (columns_in s.tables) s.rows.counts (memory s) c.args.table c.args.row.now c.as_slice.result.now (omega arith) is (c.if-row-len.false ∙ c.len.ensures.value ∙ ap length (sym c.as_slice.ensures.value)) some in
     rw (m, c.in_ok-fitting.ensures, ← c.row_limit.ensures, le-ltb _ _ c.if-self-table.true)
 
 pub returns : goal.returns
 returns c =
     let s = c.args.self.now in
-    let m = at_on s.tables s.rows.counts (memory s) c.args.table c.index-self-table.result c.args.row.now (omega arith) (omega arith) (omega arith) (omega arith) in
+    let found = rw c.in_ok-columns.ensures.ok_part at c.get.ensures.lookup in
+    let is = c.as_slice.ensures.value ∙ ap items found.1 ∙ sym (columns-at s.tables c.args.table _ found.3.0) in
+    let some : 0 < length c.args.row.now = grind (arith, nat_tests) in
+    let m = at_on (columns_in s.tables) s.rows.counts (memory s) c.args.table c.args.row.now c.as_slice.result.now (omega arith) is (c.if-row-len.false ∙ c.len.ensures.value ∙ ap length (sym c.as_slice.ensures.value)) some in
     rw (m, c.in_ok-fitting.ensures, ← c.row_limit.ensures, lt-ltb _ _ c.if-self-table.false)

@@ -4,8 +4,16 @@ use Rattle.book.specs.Columns.{columns_in}
 use Rattle.book.proofs.Striking.{strike_not, strike_may}
 use Rattle.book.proofs.book.Book.may_strike.Goals as goal
 
-pub returns-then-row-self : goal.returns-then-row-self
-returns-then-row-self c = let s = c.args.self.now in strike_not (columns_in s.tables) s.rows.counts (memory s) c.args.table c.args.row (omega arith) (omega arith)
+pub returns-then-row-count : goal.returns-then-row-count
+returns-then-row-count c =
+    let s = c.args.self.now in
+    let found = rw c.in_ok-count.ensures.ok_part at c.get.ensures.lookup in
+    let n = found.3.1 0 in
+    strike_not (columns_in s.tables) s.rows.counts (memory s) c.args.table c.args.row (omega arith) (omega arith)
 
 pub returns : goal.returns
-returns c = let s = c.args.self.now in strike_may (columns_in s.tables) s.rows.counts (memory s) c.args.table c.args.row (omega arith) (omega arith)
+returns c =
+    let s = c.args.self.now in
+    let found = rw c.in_ok-count.ensures.ok_part at c.get.ensures.lookup in
+    let n = found.3.1 0 in
+    strike_may (columns_in s.tables) s.rows.counts (memory s) c.args.table c.args.row (omega arith) (omega arith)

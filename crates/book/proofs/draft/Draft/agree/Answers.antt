@@ -1,24 +1,15 @@
-use Rattle.std.proofs.Common.{sym, ◌∙◌, arith}
+use Rattle.std.proofs.Common.{sym, ◌∙◌, rules}
+use Rattle.std.proofs.lemmas.Iterator.{YieldsList-from_slice}
+use Rattle.std.proofs.lemmas.Iterator.Search.{all_from_yields_List}
 use Rattle.semantics.specs.Drafts.{suits}
 use Rattle.semantics.specs.Lists.{every}
-use Rattle.semantics.proofs.Every.{every-on, every_not, every-end, every_map}
-use Rattle.book.specs.Columns.{listed}
+use Rattle.semantics.proofs.Every.{every_map}
+use Rattle.bounded.specs.Bounded.{items}
 use Rattle.book.proofs.draft.Draft.agree.Goals as goal
-
-pub returns-then-not-agree : goal.returns-then-not-agree
-returns-then-not-agree c =
-    let p = every (suits c.args.domain c.args.kind) in
-    let tables = c.args.self.now.tables in
-    every_not (λ t. p (listed t)) tables c.loop-columns.columns-index c.columns-item.result (omega arith) (sym c.if-not-agree.ensures) c.loop-columns.invariant
-    ∙ sym (every_map p listed tables)
-
-pub loop-columns-preserved : goal.loop-columns-preserved
-loop-columns-preserved c =
-    every-on (λ t. every (suits c.args.domain c.args.kind) (listed t)) c.args.self.now.tables c.loop-columns.columns-index c.columns-item.result (omega arith) (sym c.if-not-agree.ensures) c.loop-columns.invariant
 
 pub returns : goal.returns
 returns c =
-    let p = every (suits c.args.domain c.args.kind) in
+    let all_suit = every (suits c.args.domain c.args.kind) in
     let tables = c.args.self.now.tables in
-    every-end (λ t. p (listed t)) tables c.loop-columns.columns-index (omega arith) c.loop-columns.invariant
-    ∙ sym (every_map p listed tables)
+    all_from_yields_List (λ columns. all_suit (items columns)) _ _ _ c.all.ensures.ran (YieldsList-from_slice tables cc) (λ x b q k. search rules)
+    ∙ sym (every_map all_suit items tables)

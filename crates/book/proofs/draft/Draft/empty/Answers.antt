@@ -1,7 +1,8 @@
 use Rattle.std.proofs.Common.{[], ◌∷◌, length, sym, refl, ◌∙◌, subst}
 use Rattle.std.proofs.lemmas.List.{length-map}
 use Rattle.semantics.proofs.Lawful.{open_lawful}
-use Rattle.book.specs.Columns.{listed, columns_in}
+use Rattle.bounded.specs.Bounded.{items}
+use Rattle.book.specs.Columns.{columns_in}
 use Rattle.book.specs.Layout.{Clean}
 use Rattle.book.proofs.Cleaning.{clean_open}
 use Rattle.book.proofs.draft.Draft.empty.Goals as goal
@@ -13,6 +14,6 @@ invariant_of-result c =
       four = c.args.self.four;
       counted = refl;
       domains = c.args.self.domains;
-      fitting = open_lawful S (length c.args.cells.now) (length-map c.args.self.tables listed ∙ c.args.self.four);
+      fitting = open_lawful S (length c.args.cells.now) (length-map c.args.self.tables items ∙ c.args.self.four);
       clean = subst (Clean S (0 ∷ 0 ∷ 0 ∷ 0 ∷ [])) (sym c.requires) (clean_open S (0 ∷ 0 ∷ 0 ∷ 0 ∷ []) (length c.args.cells.now));
     }
