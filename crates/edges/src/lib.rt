@@ -9,4 +9,6 @@ mod memory;
 #[cfg(test)]
 mod prefixes;
 #[cfg(test)]
+mod refused;
+#[cfg(test)]
 mod rows;

@@ -20,43 +20,36 @@ fn a_row_for_each_32_cells_up_to_256(rt: HostRuntime) {
     assert_eq!(rt; limit(&mut [cell; 9000]), 256);
 }
 
-/// Stores rows of one number until a store is refused, and says how many were stored and why it ended.
-fn fill(memory: &mut [Cell]) -> Result<(u32, u8), Refusal> {
+/// Stores rows of one number until a store is refused, and says how many were stored and which
+/// refusal ended it.
+fn fill(memory: &mut [Cell]) -> Result<(u32, Option<u8>), Refusal> {
     let mut draft = Draft::new();
     draft.declare(1, 1, 0)?;
     let mut book = draft.open(memory);
     for n in 0..1000 {
         if let Err(refusal) = book.store(1, &[Cell::Number(n)]) {
-            return Ok((n, refusal.number()));
+            return Ok((n, Some(refusal.number())));
         }
     }
-    Ok((1000, 0))
+    Ok((1000, None))
 }
 
 #[test]
 fn the_last_row_and_one_more(rt: HostRuntime) -> Result<(), Fail> {
     let cell = Cell::Number(9);
-    assert_eq!(rt; fill(&mut [cell; 31])?, (0, 10));
-    assert_eq!(rt; fill(&mut [cell; 32])?, (1, 10));
-    assert_eq!(rt; fill(&mut [cell; 8192])?, (256, 10));
-    assert_eq!(rt; fill(&mut [cell; 9000])?, (256, 10));
+    assert_eq!(rt; fill(&mut [cell; 31])?, (0, Some(10)));
+    assert_eq!(rt; fill(&mut [cell; 32])?, (1, Some(10)));
+    assert_eq!(rt; fill(&mut [cell; 8192])?, (256, Some(10)));
+    assert_eq!(rt; fill(&mut [cell; 9000])?, (256, Some(10)));
     Ok(())
 }
 
 /// Whether each cell is the number 0, but for the one at this place, which is this number.
 fn only(memory: &[Cell], place: usize, number: u32) -> bool {
-    for (i, cell) in memory.iter().enumerate() {
+    memory.iter().enumerate().all(|(i, cell)| {
         let wanted = if i == place { number } else { 0 };
-        match cell {
-            Cell::Number(n) => {
-                if *n != wanted {
-                    return false;
-                }
-            }
-            Cell::Prefix(_) => return false,
-        }
-    }
-    true
+        *cell == Cell::Number(wanted)
+    })
 }
 
 /// Two rows in table 1 of a book in this memory, of which the first is struck.

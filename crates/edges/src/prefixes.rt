@@ -1,28 +1,21 @@
+use crate::refused::number;
 use cells::Prefix;
 use std::test::Fail;
 
-/// The number of the refusal of these bytes, 0 where they make a prefix.
-fn number(bytes: &[u8]) -> u8 {
-    match Prefix::from_bytes(bytes) {
-        Ok(_) => 0,
-        Err(refusal) => refusal.number(),
-    }
-}
-
 #[test]
 fn from_no_digit_to_eight(rt: HostRuntime) {
-    assert_eq!(rt; number(b""), 0);
-    assert_eq!(rt; number(b"0"), 0);
-    assert_eq!(rt; number(b"99999999"), 0);
-    assert_eq!(rt; number(b"123456789"), 5);
+    assert_eq!(rt; number(Prefix::from_bytes(b"")), None);
+    assert_eq!(rt; number(Prefix::from_bytes(b"0")), None);
+    assert_eq!(rt; number(Prefix::from_bytes(b"99999999")), None);
+    assert_eq!(rt; number(Prefix::from_bytes(b"123456789")), Some(5));
 }
 
 #[test]
 fn digits_alone(rt: HostRuntime) {
-    assert_eq!(rt; number(b"47a"), 5);
-    assert_eq!(rt; number(b"4 7"), 5);
-    assert_eq!(rt; number(b"/"), 5);
-    assert_eq!(rt; number(b":"), 5);
+    assert_eq!(rt; number(Prefix::from_bytes(b"47a")), Some(5));
+    assert_eq!(rt; number(Prefix::from_bytes(b"4 7")), Some(5));
+    assert_eq!(rt; number(Prefix::from_bytes(b"/")), Some(5));
+    assert_eq!(rt; number(Prefix::from_bytes(b":")), Some(5));
 }
 
 #[test]

@@ -3,7 +3,7 @@ ghost use Rattle.std.specs.List.{flat_map};
 ghost use Rattle.semantics.specs.Bytes.{record_bytes, two_bytes};
 ghost use Rattle.semantics.specs.Replies.{row_bytes};
 ghost use Rattle.view.specs.Views.{masked_of};
-ghost use Rattle.workspace.specs.Blocks.{block_rows};
+ghost use Rattle.workspace.specs.Rows.{rows_left};
 ghost use Rattle.reply.specs.Kinds.{kind_number};
 
 use crate::count::Count;
@@ -11,7 +11,7 @@ use crate::kinds::RecordKind;
 use crate::row::put_cells;
 use crate::sink::Sink;
 use view::Masked;
-use workspace::Block;
+use workspace::Rows;
 
 /// Puts two numbers, each in two bytes, the low byte first.
 fn put_pair<S: Sink>(to: &mut S, first: u16, second: u16)
@@ -48,16 +48,17 @@ fn put_row<S: Sink>(to: &mut S, kind: RecordKind, row: &[Masked])
 {
     let mut body = Count(0);
     put_cells(&mut body, row);
+    // `as` keeps the size: 8 cells take at most 80 bytes.
     put_head(to, body.0 as u16, kind);
     put_cells(to, row);
 }
 
-/// Puts the rows of a block, each as a record of this kind.
-pub(crate) fn put_rows<S: Sink>(to: &mut S, kind: RecordKind, work: &[Masked], block: Block)
-    requires { length (flat_map (row_bytes (kind_number kind)) (block_rows work.now block)) ≤ S.room to.old }
-    ensures { S.takes to.old (flat_map (row_bytes (kind_number kind)) (block_rows work.now block)) to.new }
+/// Puts rows, each as a record of this kind.
+pub(crate) fn put_rows<S: Sink>(to: &mut S, kind: RecordKind, rows: Rows<'_>)
+    requires { length (flat_map (row_bytes (kind_number kind)) (rows_left rows)) ≤ S.room to.old }
+    ensures { S.takes to.old (flat_map (row_bytes (kind_number kind)) (rows_left rows.entry)) to.new }
 {
-    for row in block.rows(work) {
+    for row in rows {
         put_row(to, kind, row);
     }
 }

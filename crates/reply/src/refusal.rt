@@ -9,6 +9,7 @@ use semantics::Refusal;
 pub fn refusal_record(refusal: Refusal) -> [u8; 6]
     ensures { result ≡ refusal_bytes (refusal_number refusal) (refusal_place refusal) }
 {
+    // A function and no `From<Refusal> for [u8; 6]`: both types are those of other crates.
     let kind = RecordKind::Refusal as u8;
     [2, 0, kind, 0, refusal.number(), refusal.place()]
 }

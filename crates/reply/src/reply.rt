@@ -17,9 +17,10 @@ fn put_reply<S: Sink>(to: &mut S, work: &[Masked], certain: Block, possible: Blo
     requires { length (reply_bytes (block_rows work.now certain) (block_rows work.now possible)) ≤ S.room to.old }
     ensures { S.takes to.old (reply_bytes (block_rows work.now certain) (block_rows work.now possible)) to.new }
 {
+    // `as` keeps the counts: a block has at most 15,360 rows.
     put_counts(to, certain.count as u16, possible.count as u16);
-    put_rows(to, RecordKind::Certain, work, certain);
-    put_rows(to, RecordKind::Possible, work, possible);
+    put_rows(to, RecordKind::Certain, certain.rows(work));
+    put_rows(to, RecordKind::Possible, possible.rows(work));
 }
 
 /// Writes the reply with these certain and possible rows at the start of the buffer, and says how
@@ -33,6 +34,7 @@ pub fn write_reply(
 ) -> Option<usize>
     ensures { Written (reply_bytes (block_rows work.now certain) (block_rows work.now possible)) out.old out.new result }
 {
+    // The buffer is lent, as no memory is allocated here, and so the length stands for the reply.
     let mut size = Count(0);
     put_reply(&mut size, work, certain, possible);
     if size.0 > out.len() {

@@ -21,6 +21,7 @@ fn put_value<S: Sink>(to: &mut S, value: &Cell)
         }
         Cell::Prefix(prefix) => {
             let digits = prefix.digits();
+            // `as` keeps the count: a prefix has at most 8 digits.
             to.put(&[CellKind::Prefix as u8, digits.len() as u8]);
             to.put(digits);
         }

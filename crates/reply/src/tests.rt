@@ -12,6 +12,7 @@ const NONE: Block = Block {
     width: 0,
 };
 
+// The makers of cells are shorter than a crate of tests that would share them.
 fn number(n: u32) -> Masked {
     Masked::Value(Cell::Number(n))
 }

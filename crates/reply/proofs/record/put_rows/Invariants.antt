@@ -1,7 +1,6 @@
 use Rattle.std.proofs.Common.{◌≡◌, ◌++◌, map}
 use Rattle.std.specs.List.{flat_map}
 use Rattle.semantics.specs.Replies.{row_bytes}
-use Rattle.workspace.specs.Blocks.{block_rows}
 use Rattle.workspace.specs.Rows.{row_of, rows_left}
 use Rattle.reply.specs.Kinds.{kind_number}
 use Rattle.reply.proofs.record.put_rows.Given as goal
@@ -10,5 +9,5 @@ use Rattle.reply.proofs.record.put_rows.Given as goal
 abbrev pub invariant-loop-row : goal.invariant-loop-row
 invariant-loop-row g l = record {
   put : g.S.Sink.takes l.initial.to (flat_map (row_bytes (kind_number l.kind)) (map row_of l.yielded)) l.to;
-  left : map row_of l.yielded ++ rows_left l.row-iterator ≡ block_rows l.work l.fn.block;
+  left : map row_of l.yielded ++ rows_left l.row-iterator ≡ rows_left l.fn.rows;
 }
