@@ -32,35 +32,17 @@ fn apart(operator: Operator) -> Truth
 }
 
 /// What is known of a comparison of two cells.
+#[tactic(auto, using(view::proofs::Same::equal_masked))]
 pub fn compare(operator: Operator, left: &Masked, right: &Masked) -> Truth
     ensures { truth_of result ≡ compare operator (masked_of left.now) (masked_of right.now) }
 {
     match (left, right) {
-        (Masked::Value(a), Masked::Value(b)) => Truth::from(plainly(
-            operator,
-            Plain::of(a),
-            Plain::of(b),
-        )),
-        (
-            Masked::Variable { table, row, column },
-            Masked::Variable {
-                table: t,
-                row: r,
-                column: c,
-            },
-        ) if table == t && row == r && column == c => itself(operator),
-        (
-            Masked::Pseudonym { domain, index },
-            Masked::Pseudonym {
-                domain: d,
-                index: i,
-            },
-        ) if domain == d => {
-            if index == i {
-                itself(operator)
-            } else {
-                apart(operator)
-            }
+        (Masked::Value(a), Masked::Value(b)) => {
+            Truth::from(plainly(operator, Plain::of(a), Plain::of(b)))
+        }
+        _ if left == right => itself(operator),
+        (Masked::Pseudonym { domain, .. }, Masked::Pseudonym { domain: d, .. }) if domain == d => {
+            apart(operator)
         }
         _ => Truth::Unknown,
     }

@@ -1,5 +1,4 @@
 ghost use Rattle.std.specs.Prelude.{◌≡◌, [], map};
-ghost use Rattle.semantics.specs.Truths.{cell_at};
 ghost use Rattle.query.specs.Terms.{term_of};
 ghost use Rattle.view.specs.Views.{masked_of};
 ghost use Rattle.compare.specs.Stacks.{stack_of, pushed, top, under, Joined, stepped};
@@ -11,16 +10,7 @@ use crate::stack::Truths;
 use bounded::Bounded;
 use cells::Cell;
 use query::Term;
-use view::Masked;
-
-/// The cell of a row in a column, the number 0 past the row's end.
-fn cell_at(row: &[Masked], column: u8) -> Masked
-    ensures { masked_of result ≡ cell_at (map masked_of row.now) column }
-{
-    row.get(usize::from(column))
-        .copied()
-        .unwrap_or(Masked::Value(Cell::Number(0)))
-}
+use view::{Masked, cell_at};
 
 impl Truths {
     /// No truths.
