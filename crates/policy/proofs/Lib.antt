@@ -1,3 +1,4 @@
 pub mod Numbers
 pub mod Filtering
 pub mod Register
+pub mod Pushing

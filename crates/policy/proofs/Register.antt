@@ -1,30 +1,37 @@
 -- The entries of a register: finding one, and setting one.
-use Rattle.std.proofs.Common.{◌≡◌, ℕ, suc, ◌+◌, ◌<◌, ◌≤◌, Bool, true, false, cond, not, ◌&&◌, ◌||◌, eqb, List, [], ◌∷◌, ◌++◌, length, get_or, take, drop, set, Some, None, Option, sym, refl, ap, ◌∙◌, ⊎_elim, arith}
-use lib.Seq.{take-set-lt}
-use Rattle.std.proofs.lemmas.List.{at_drop_more, at_drop_all, get_or-take, length-take-le, take_more_set}
+use Rattle.std.proofs.Common.{◌≡◌, ℕ, suc, ◌+◌, ◌<◌, ◌≤◌, Bool, true, false, cond, not, ◌&&◌, ◌||◌, eqb, List, [], ◌∷◌, ◌++◌, length, get_or, set, Some, None, Option, Err, Result, IsOk, IsErr, ◌⊎◌, inl, inr, sym, refl, ap, ◌∙◌, ⊎_elim, arith}
+use mathlib.Core.HLevel.{is_prop→PathP}
+use Rattle.std.proofs.Math.Bool.{Bool-set}
+use Rattle.std.specs.List.{find, position, position_from}
+use Rattle.std.proofs.lemmas.Iterator.Adapters.{position_from-zero}
 use Rattle.std.proofs.lemmas.Bool.{lt-ltb, le-ltb, ne_eqb, eqb-true, eqb-false, and_parts, and_from, cases_Bool, cond-true, cond-false, cond_both}
 use Rattle.std.proofs.lemmas.Bool.Decides.{nat_tests}
 use Rattle.semantics.specs.declared.mark.Mark.{Mark}
 use Rattle.semantics.specs.declared.mark.Mark.TheVariants.{Shown}
+use Rattle.std.specs.Result.{result_or}
+use Rattle.semantics.specs.declared.refusal.Refusal.{Refusal}
 use Rattle.semantics.specs.declared.refusal.Refusal.TheVariants.{RegisterFull}
+use Rattle.policy.proofs.Pushing.{pushed_or}
+use Rattle.bounded.specs.Bounded.{items}
 use Rattle.semantics.specs.declared.rule.Consent.{Consent}
-use Rattle.semantics.specs.Outcomes.{done, refuse}
+use Rattle.policy.specs.declared.consents.Consents.{Consents}
+use Rattle.semantics.specs.Outcomes.{done, refuse, Kept}
 use Rattle.semantics.specs.Policies.{number_at, is_number, consent_of, consent_mark, key_mark, consents_mean, replaced, is_known, keys_apart, consented, consented_mean, SameMeaning}
-use Rattle.policy.specs.Consents.{place_from}
 
--- a loop over the entries: what is left decides
-module _ (es : List Consent) (key i : ℕ) (d : Consent) (o : Option ℕ) (in' : i < length es) (inv : place_from i (drop i es) key ≡ o) where
-  step : place_from i (drop i es) key ≡ cond (eqb (get_or es i d).key key) (Some i) (place_from (i + 1) (drop (i + 1) es) key)
-  step = at_drop_more (λ xs. place_from i xs key) es i d in'
+-- the place of the entry of a key, counted from `n`
+abbrev place_from : ℕ → List Consent → ℕ → Option ℕ
+place_from n es key = position_from (λ e. eqb e.key key) n es
 
-  pub place_here : eqb (get_or es i d).key key ≡ true → Some i ≡ o
-  place_here t = sym (cond-true _ (Some i) (place_from (i + 1) (drop (i + 1) es) key) t) ∙ (sym step ∙ inv)
+abbrev place : List Consent → ℕ → Option ℕ
+place es key = position (λ e. eqb e.key key) es
 
-  pub place-on : eqb (get_or es i d).key key ≡ false → place_from (i + 1) (drop (i + 1) es) key ≡ o
-  place-on f = sym (cond-false _ (Some i) (place_from (i + 1) (drop (i + 1) es) key) f) ∙ (sym step ∙ inv)
+place_is : (es : List Consent) (key : ℕ) → place es key ≡ place_from 0 es key
+place_is es key = position_from-zero (λ e. eqb e.key key) es
 
-pub place_end : (es : List Consent) (key i : ℕ) (o : Option ℕ) → length es ≤ i → place_from i (drop i es) key ≡ o → None ≡ o
-place_end es key i o h inv = sym (at_drop_all (λ xs. place_from i xs key) es i h) ∙ inv
+-- `find` by a key
+pub found_is : (es : List Consent) (key : ℕ) → find (λ e. eqb e.key key) es ≡ consent_of es key
+found_is [] key = refl
+found_is (e ∷ es) key = ap (λ o. cond (eqb e.key key) (Some e) o) (found_is es key)
 
 -- what is known of the place of a key's entry
 pub record FoundAt (es : List Consent) (key k : ℕ) : Type 0 where
@@ -60,9 +67,9 @@ found_from n (x ∷ xs) key i e =
     (suc rest.0, omega arith, at-later x xs key rest.0 f rest.2))
     (cases_Bool (eqb x.key key))
 
-pub found_at : (es : List Consent) (key i : ℕ) → Some i ≡ place_from 0 es key → FoundAt es key i
+pub found_at : (es : List Consent) (key i : ℕ) → Some i ≡ place es key → FoundAt es key i
 found_at es key i e =
-    let f = found_from 0 es key i (sym e) in
+    let f = found_from 0 es key i (sym (e ∙ place_is es key)) in
     let r = f.1 in
     let same : i ≡ f.0 = omega arith in
     rw same f.2
@@ -77,8 +84,8 @@ none_from n (x ∷ xs) key e =
     (λ (f : eqb x.key key ≡ false). rw f (none_from (n + 1) xs key (sym (cond-false _ (Some n) (place_from (n + 1) xs key) f) ∙ e)))
     (cases_Bool (eqb x.key key))
 
-pub not_found : (es : List Consent) (key : ℕ) → None ≡ place_from 0 es key → consent_of es key ≡ None
-not_found es key e = none_from 0 es key (sym e)
+pub not_found : (es : List Consent) (key : ℕ) → None ≡ place es key → consent_of es key ≡ None
+not_found es key e = none_from 0 es key (sym (e ∙ place_is es key))
 
 -- tests of keys, one inside another
 module _ {X : Type 0} (a b k : ℕ) (x y z : X) where
@@ -188,51 +195,49 @@ replaced-means es e old h = set-means es (replaced es e) e (replaced-set es e ol
 pub pushed-means : (es : List Consent) (e : Consent) → consent_of es e.key ≡ None → SameMeaning (consents_mean (es ++ e ∷ [])) (consented_mean es e)
 pushed-means es e h = set-means es (es ++ e ∷ []) e (pushed-set es e h)
 
--- the first `n` of a list as the entries of a register
-module _ (list : List Consent) (n : ℕ) (room : n ≤ length list) where
-  count : length (take n list) ≡ n
-  count = length-take-le n list room
+-- the entries with a known key's replaced
+module _ (es : List Consent) (e : Consent) (i : ℕ) (at : Some i ≡ place es e.key) where
+  known : consent_of es e.key ≡ Some (get_or es i e)
+  known = (found_at es e.key i at).entry e
 
-  pub place-within : (key i : ℕ) → Some i ≡ place_from 0 (take n list) key → i < n
-  place-within key i at = let h = (found_at (take n list) key i at).within in omega (arith, count)
+  pub place-within : i < length es
+  place-within = (found_at es e.key i at).within
 
-  pub place-entry : (key i : ℕ) (d : Consent) → Some i ≡ place_from 0 (take n list) key → Some (get_or list i d) ≡ consent_of (take n list) key
-  place-entry key i d at = sym ((found_at (take n list) key i at).entry d ∙ ap (λ x. Some x) (get_or-take n list i d (place-within key i at)))
+  written : set es i e ≡ replaced es e
+  written = sym ((found_at es e.key i at).put e refl)
 
-  -- a known key
-  module _ (e : Consent) (i : ℕ) (at : Some i ≡ place_from 0 (take n list) e.key) where
-    known : consent_of (take n list) e.key ≡ Some (get_or list i e)
-    known = sym (place-entry e.key i e at)
+  pub replaces : consented es e ≡ done (set es i e)
+  replaces = rw (known, written)
 
-    written : take n (set list i e) ≡ replaced (take n list) e
-    written = take-set-lt n list i e (place-within e.key i at) ∙ sym ((found_at (take n list) e.key i at).put e refl)
+  pub replaces-apart : keys_apart es ≡ true → keys_apart (set es i e) ≡ true
+  replaces-apart h = rw written (replaced-apart es e h)
 
-    pub replaces : consented (take n list) e ≡ done (take n (set list i e))
-    replaces = rw (known, written)
+  pub replaces-means : SameMeaning (consents_mean (set es i e)) (consented_mean es e)
+  replaces-means = rw written (replaced-means es e (get_or es i e) known)
 
-    pub replaces-apart : keys_apart (take n list) ≡ true → keys_apart (take n (set list i e)) ≡ true
-    replaces-apart h = rw written (replaced-apart (take n list) e h)
+-- the entries with one of a new key
+module _ (es : List Consent) (e : Consent) (at : None ≡ place es e.key) where
+  new : consent_of es e.key ≡ None
+  new = not_found es e.key at
 
-    pub replaces-means : SameMeaning (consents_mean (take n (set list i e))) (consented_mean (take n list) e)
-    replaces-means = rw written (replaced-means (take n list) e (get_or list i e) known)
+  pub no_room : 64 ≤ length es → consented es e ≡ refuse RegisterFull
+  no_room h = rw (new, le-ltb (length es) 64 h)
 
-  -- a new one
-  module _ (e : Consent) (at : None ≡ place_from 0 (take n list) e.key) where
-    new : consent_of (take n list) e.key ≡ None
-    new = not_found (take n list) e.key at
+  pub adds : length es < 64 → consented es e ≡ done (es ++ e ∷ [])
+  adds h = rw (new, lt-ltb (length es) 64 h)
 
-    pub no_room : 64 ≤ n → consented (take n list) e ≡ refuse RegisterFull
-    no_room h = rw (new, count, le-ltb n 64 h)
+  pub adds-apart : keys_apart es ≡ true → keys_apart (es ++ e ∷ []) ≡ true
+  adds-apart h = pushed-apart es e new h
 
-    module _ (left : n < length list) where
-      added : take (n + 1) (set list n e) ≡ take n list ++ e ∷ []
-      added = take_more_set list n e left
+  pub adds-means : SameMeaning (consents_mean (es ++ e ∷ [])) (consented_mean es e)
+  adds-means = pushed-means es e new
 
-      pub adds : n < 64 → consented (take n list) e ≡ done (take (n + 1) (set list n e))
-      adds h = rw (new, count, lt-ltb n 64 h, added)
+-- two registers with the same entries are one
+pub same_register : (a b : Consents) → a.entries ≡ b.entries → a ≡ b
+same_register a b e =
+    λ i. record { entries = e i; apart = is_prop→PathP (λ j. keys_apart (items (e j)) ≡ true) (λ j. Bool-set (keys_apart (items (e j))) true) a.apart b.apart i }
 
-      pub adds-apart : keys_apart (take n list) ≡ true → keys_apart (take (n + 1) (set list n e)) ≡ true
-      adds-apart h = rw added (pushed-apart (take n list) e new h)
-
-      pub adds-means : SameMeaning (consents_mean (take (n + 1) (set list n e))) (consented_mean (take n list) e)
-      adds-means = rw added (pushed-means (take n list) e new)
+pub kept_register : {E : Type 0} (r : Result (Unit {0}) E) (e : Refusal) (o : Result (Unit {0}) Refusal) (before after : Consents) → o ≡ result_or r (Err e) → IsOk r ⊎ (IsErr r × (after.entries ≡ before.entries)) → Kept o before after
+kept_register r e o before after is h =
+    pushed_or r e o (λ r. Kept r before after) is
+    (⊎_elim (λ (ok : IsOk r). inl (ok, tt)) (λ (p : IsErr r × (after.entries ≡ before.entries)). inr (p.0, same_register after before p.1)) h)

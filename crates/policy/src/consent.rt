@@ -1,11 +1,12 @@
-ghost use Rattle.std.specs.Prelude.{◌≡◌, true, false, [], Some, None, slice_index_or};
+ghost use Rattle.std.specs.Prelude.{◌≡◌, true, false, [], Some, None, ◌==◌, position, slice_index_or};
 ghost use Rattle.semantics.specs.Outcomes.{done, Steps, Kept};
 ghost use Rattle.semantics.specs.Policies.{consent_of, consent_mark, keys_apart, consented, consented_mean, SameMeaning, Means};
-ghost use Rattle.policy.specs.Consents.{entries_of, consents_meaning, place_from};
+ghost use Rattle.policy.specs.Consents.{entries_of, consents_meaning};
 
 use crate::consents::Consents;
 use crate::number::number_at;
 use crate::policy::Policy;
+use bounded::Bounded;
 use cells::Cell;
 use semantics::{Consent, Mark, Refusal};
 
@@ -13,7 +14,7 @@ use semantics::{Consent, Mark, Refusal};
 fn has(columns: &[bool], column: usize) -> bool
     ensures { result ≡ slice_index_or columns.now column false }
 {
-    column < columns.len() && columns[column]
+    columns.get(column).copied().unwrap_or(false)
 }
 
 /// The mark that an entry gives a column.
@@ -45,8 +46,7 @@ impl Consents {
             linked: [false; 8],
         };
         Consents {
-            list: [entry; 64],
-            count: 0,
+            entries: Bounded::new(entry),
         }
     }
 
@@ -55,52 +55,43 @@ impl Consents {
         ensures value { result.now ≡ entries_of self.now }
         ensures apart { keys_apart result.now ≡ true }
     {
-        &self.list[0..self.count]
+        self.entries.as_slice()
     }
 
     /// The place of the entry of a key, if it has one.
     fn place(&self, key: u32) -> Option<usize>
-        ensures { result ≡ place_from 0 (entries_of self.now) key }
+        ensures { result ≡ position (λ e. e.key == key) (entries_of self.now) }
     {
-        let entries = self.entries();
-        for (i, entry) in entries.iter().enumerate() {
-            if entry.key == key {
-                return Some(i);
-            }
-        }
-        None
+        self.entries().iter().position(|entry| entry.key == key)
     }
 
     /// The entry of a key, if it has one.
     fn entry(&self, key: u32) -> Option<Consent>
         ensures { result ≡ consent_of (entries_of self.now) key }
     {
-        let place = self.place(key)?;
-        Some(self.list[place])
+        self.entries()
+            .iter()
+            .find(|entry| entry.key == key)
+            .copied()
     }
 
     /// Puts an entry in the place of the one of its key.
     fn replace(&mut self, place: usize, consent: Consent)
-        requires { Some place ≡ place_from 0 (entries_of self.old) consent.key }
+        requires { Some place ≡ position (λ e. e.key == consent.key) (entries_of self.old) }
         ensures step { consented (entries_of self.old) consent ≡ done (entries_of self.new) }
         ensures meaning { SameMeaning (consents_meaning self.new) (consented_mean (entries_of self.old) consent) }
     {
-        self.list[place] = consent;
+        self.entries.set(place, consent);
     }
 
     /// Adds an entry of a new key.
     fn append(&mut self, consent: Consent) -> Result<(), Refusal>
-        requires { None ≡ place_from 0 (entries_of self.old) consent.key }
+        requires { None ≡ position (λ e. e.key == consent.key) (entries_of self.old) }
         ensures step { Steps result (consented (entries_of self.old) consent) (entries_of self.old) (entries_of self.new) }
         ensures meaning { Means result (consents_meaning self.old) (consented_mean (entries_of self.old) consent) (consents_meaning self.new) }
         ensures kept { Kept result self.old self.new }
     {
-        if self.count >= self.list.len() {
-            return Err(Refusal::RegisterFull);
-        }
-        self.list[self.count] = consent;
-        self.count += 1;
-        Ok(())
+        self.entries.push(consent).or(Err(Refusal::RegisterFull))
     }
 
     /// Sets the entry of a key: a known key's is replaced, a new key's is added.
@@ -109,11 +100,13 @@ impl Consents {
         ensures meaning { Means result (consents_meaning self.old) (consented_mean (entries_of self.old) consent) (consents_meaning self.new) }
         ensures kept { Kept result self.old self.new }
     {
-        if let Some(place) = self.place(consent.key) {
-            self.replace(place, consent);
-            return Ok(());
+        match self.place(consent.key) {
+            Some(place) => {
+                self.replace(place, consent);
+                Ok(())
+            }
+            None => self.append(consent),
         }
-        self.append(consent)
     }
 }
 
@@ -124,12 +117,8 @@ impl Policy for Consents {
         if table != 3 {
             return Mark::Shown;
         }
-        let Some(key) = number_at(row, 0) else {
-            return Mark::Hidden;
-        };
-        match self.entry(key) {
-            Some(entry) => entry_mark(entry, column),
-            None => Mark::Hidden,
-        }
+        number_at(row, 0)
+            .and_then(|key| self.entry(key))
+            .map_or(Mark::Hidden, |entry| entry_mark(entry, column))
     }
 }

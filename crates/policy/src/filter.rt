@@ -1,12 +1,13 @@
-ghost use Rattle.std.specs.Prelude.{◌≡◌, [], map};
+ghost use Rattle.std.specs.Prelude.{◌≡◌, [], map, nat_lt};
 ghost use Rattle.cells.specs.Cells.{cell_value};
-ghost use Rattle.semantics.specs.Outcomes.{done, Answers, Steps, Kept};
-ghost use Rattle.semantics.specs.Policies.{holds, applies, same_sign, counts, some_rule, test_column, may_rule, ruled, ruled_mean, SameMeaning, Means};
+ghost use Rattle.semantics.specs.Outcomes.{Steps, Kept};
+ghost use Rattle.semantics.specs.Policies.{holds, applies, counts, some_rule, test_column, ruled, ruled_mean, Means};
 ghost use Rattle.policy.specs.Filters.{rules_of, filters_meaning};
 
 use crate::filters::Filters;
 use crate::number::number_at;
 use crate::policy::Policy;
+use bounded::Bounded;
 use cells::Cell;
 use semantics::{Mark, Refusal, Rule, Sign, Test};
 
@@ -16,10 +17,7 @@ fn holds(test: Test, row: &[Cell]) -> bool
 {
     match test {
         Test::Always => true,
-        Test::Holds { column, number } => match number_at(row, column) {
-            Some(found) => found == number,
-            None => false,
-        },
+        Test::Holds { column, number } => number_at(row, column) == Some(number),
     }
 }
 
@@ -30,30 +28,21 @@ fn applies(rule: Rule, broker: u16, table: usize, row: &[Cell], column: usize) -
     rule.broker == broker && rule.table == table && rule.column == column && holds(rule.test, row)
 }
 
-/// Whether the two signs are one.
-fn same_sign(sign: Sign, other: Sign) -> bool
-    ensures { result ≡ same_sign sign other }
-{
-    match (sign, other) {
-        (Sign::Allow, Sign::Allow) | (Sign::Prohibit, Sign::Prohibit) => true,
-        _ => false,
-    }
-}
-
 /// Whether the rule has this sign and applies.
+#[tactic(auto, using(crate::proofs::Filtering::equal_signs))]
 fn counts(rule: Rule, sign: Sign, broker: u16, table: usize, row: &[Cell], column: usize) -> bool
     ensures { result ≡ counts sign broker table (map cell_value row.now) column rule }
 {
-    same_sign(rule.sign, sign) && applies(rule, broker, table, row, column)
+    rule.sign == sign && applies(rule, broker, table, row, column)
 }
 
-/// The column that a test names, 0 where it names none.
-fn test_column(test: Test) -> usize
-    ensures { result ≡ test_column test }
+/// Whether a table may have the column that the test names, if it names one.
+fn may_test(test: Test) -> bool
+    ensures { result ≡ nat_lt (test_column test) 8 }
 {
     match test {
-        Test::Always => 0,
-        Test::Holds { column, number: _ } => column,
+        Test::Always => true,
+        Test::Holds { column, number: _ } => column < 8,
     }
 }
 
@@ -70,8 +59,7 @@ impl Filters {
             test: Test::Always,
         };
         Filters {
-            list: [rule; 16],
-            count: 0,
+            rules: Bounded::new(rule),
         }
     }
 
@@ -79,46 +67,16 @@ impl Filters {
     pub fn rules(&self) -> &[Rule]
         ensures { result.now ≡ rules_of self.now }
     {
-        &self.list[0..self.count]
+        self.rules.as_slice()
     }
 
     /// Whether some rule of this sign applies.
     fn some_rule(&self, sign: Sign, broker: u16, table: usize, row: &[Cell], column: usize) -> bool
         ensures { result ≡ some_rule sign (rules_of self.now) broker table (map cell_value row.now) column }
     {
-        let rules = self.rules();
-        for rule in rules {
-            if counts(*rule, sign, broker, table, row, column) {
-                return true;
-            }
-        }
-        false
-    }
-
-    /// The questions of a new rule.
-    fn may_add(&self, rule: Rule) -> Result<(), Refusal>
-        ensures { Answers result (may_rule (rules_of self.now) rule) }
-    {
-        if rule.table >= 4 {
-            return Err(Refusal::NoTable);
-        }
-        if rule.column >= 8 || test_column(rule.test) >= 8 {
-            return Err(Refusal::NoColumn);
-        }
-        if self.count >= self.list.len() {
-            return Err(Refusal::TooManyRules);
-        }
-        Ok(())
-    }
-
-    /// Adds a rule that passes the questions.
-    fn append(&mut self, rule: Rule)
-        requires { may_rule (rules_of self.old) rule ≡ done tt }
-        ensures step { ruled (rules_of self.old) rule ≡ done (rules_of self.new) }
-        ensures meaning { SameMeaning (filters_meaning self.new) (ruled_mean (rules_of self.old) rule) }
-    {
-        self.list[self.count] = rule;
-        self.count += 1;
+        self.rules()
+            .iter()
+            .any(|rule| counts(*rule, sign, broker, table, row, column))
     }
 
     /// Adds a rule.
@@ -127,9 +85,13 @@ impl Filters {
         ensures meaning { Means result (filters_meaning self.old) (ruled_mean (rules_of self.old) rule) (filters_meaning self.new) }
         ensures kept { Kept result self.old self.new }
     {
-        self.may_add(rule)?;
-        self.append(rule);
-        Ok(())
+        if rule.table >= 4 {
+            return Err(Refusal::NoTable);
+        }
+        if rule.column >= 8 || !may_test(rule.test) {
+            return Err(Refusal::NoColumn);
+        }
+        self.rules.push(rule).or(Err(Refusal::TooManyRules))
     }
 }
 

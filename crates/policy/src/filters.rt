@@ -1,12 +1,8 @@
-ghost use Rattle.std.specs.Prelude.{◌≡◌, ◌≤◌, length};
-
+use bounded::Bounded;
 use semantics::Rule;
 
-/// A policy of at most 16 rules: the first `count` of `list`.
+/// A policy of at most 16 rules.
 #[derive(Drop)]
 pub struct Filters {
-    pub(crate) list: [Rule; 16],
-    pub(crate) count: usize,
-    ghost short: { count ≤ 16 },
-    ghost sixteen: { length list ≡ 16 },
+    pub(crate) rules: Bounded<Rule, 16>,
 }

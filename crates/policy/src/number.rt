@@ -8,12 +8,8 @@ use cells::Cell;
 pub(crate) fn number_at(row: &[Cell], column: usize) -> Option<u32>
     ensures { result ≡ number_at (map cell_value row.now) column }
 {
-    if column >= row.len() {
-        return None;
-    }
-    let cell = row[column];
-    match cell {
-        Cell::Number(number) => Some(number),
+    match row.get(column)? {
+        Cell::Number(number) => Some(*number),
         Cell::Prefix(_) => None,
     }
 }

@@ -14,11 +14,9 @@ const ALLOW: Rule = Rule {
     test: Test::Always,
 };
 
-fn refused(answer: Result<(), Refusal>) -> u8 {
-    match answer {
-        Ok(()) => 0,
-        Err(refusal) => refusal.number(),
-    }
+/// The answer with the number of its refusal.
+fn numbered(answer: Result<(), Refusal>) -> Result<(), u8> {
+    answer.map_err(|refusal| refusal.number())
 }
 
 fn prefix() -> Result<Cell, Refusal> {
@@ -41,7 +39,7 @@ fn filters_take_sixteen_rules(rt: HostRuntime) -> Result<(), Fail> {
     for _ in 0..16 {
         filters.add(ALLOW)?;
     }
-    assert_eq!(rt; refused(filters.add(ALLOW)), 23);
+    assert_eq!(rt; numbered(filters.add(ALLOW)), Err(23));
     assert_eq!(rt; filters.rules().len(), 16);
     Ok(())
 }
@@ -54,34 +52,34 @@ fn rules_are_questioned(rt: HostRuntime) {
         number: 1,
     };
     assert_eq!(rt;
-        refused(filters.add(Rule {
+        numbered(filters.add(Rule {
             broker: 7,
             table: 4,
             column: 8,
             sign: Sign::Allow,
             test: far,
         })),
-        1
+        Err(1)
     );
     assert_eq!(rt;
-        refused(filters.add(Rule {
+        numbered(filters.add(Rule {
             broker: 7,
             table: 3,
             column: 8,
             sign: Sign::Allow,
             test: Test::Always,
         })),
-        7
+        Err(7)
     );
     assert_eq!(rt;
-        refused(filters.add(Rule {
+        numbered(filters.add(Rule {
             broker: 7,
             table: 3,
             column: 0,
             sign: Sign::Allow,
             test: far,
         })),
-        7
+        Err(7)
     );
     assert_eq!(rt; filters.rules().len(), 0);
     let last = Test::Holds {
@@ -89,14 +87,14 @@ fn rules_are_questioned(rt: HostRuntime) {
         number: 1,
     };
     assert_eq!(rt;
-        refused(filters.add(Rule {
+        numbered(filters.add(Rule {
             broker: 7,
             table: 3,
             column: 7,
             sign: Sign::Allow,
             test: last,
         })),
-        0
+        Ok(())
     );
 }
 
@@ -171,7 +169,7 @@ fn consents_take_sixty_four_keys(rt: HostRuntime) -> Result<(), Fail> {
     for key in 0..64 {
         consents.set(consent(key))?;
     }
-    assert_eq!(rt; refused(consents.set(consent(64))), 24);
+    assert_eq!(rt; numbered(consents.set(consent(64))), Err(24));
     consents.set(Consent {
         key: 5,
         shown: [false; 8],

@@ -1,24 +1,13 @@
-use Rattle.std.proofs.Common.{sym, arith}
-use Rattle.policy.specs.Consents.{entries_of}
-use Rattle.policy.proofs.Register.{not_found, place-within, place-entry}
+use Rattle.std.proofs.Common.{eqb, ◌∙◌, rules, tests}
+use Rattle.std.proofs.lemmas.Iterator.{YieldsList-from_slice}
+use Rattle.std.proofs.lemmas.Iterator.Search.{find_from_yields_List}
+use Rattle.bounded.specs.Bounded.{items}
+use Rattle.policy.proofs.Register.{found_is}
 use Rattle.policy.proofs.consents.Consents.entry.Goals as goal
-
-pub returns-in_err-place : goal.returns-in_err-place
-returns-in_err-place c = rw c.from_residual.ensures (sym (not_found (entries_of c.args.self.now) c.args.key c.in_err-place.ensures))
-
-pub offset_bounds-self-place : goal.offset_bounds-self-place
-offset_bounds-self-place c =
-    let s = c.args.self.now in
-    let h = place-within s.list s.count (omega arith) c.args.key c.in_ok-place.place c.in_ok-place.ensures in
-    omega arith
-
-pub bounds-self-place : goal.bounds-self-place
-bounds-self-place c =
-    let s = c.args.self.now in
-    let h = place-within s.list s.count (omega arith) c.args.key c.in_ok-place.place c.in_ok-place.ensures in
-    omega arith
 
 pub returns : goal.returns
 returns c =
-    let s = c.args.self.now in
-    place-entry s.list s.count (omega arith) c.args.key c.in_ok-place.place _ c.in_ok-place.ensures
+    let es = items c.args.self.now.entries in
+    c.copied.ensures
+    ∙ find_from_yields_List (λ e. eqb e.key c.args.key) _ _ c.find.result c.find.ensures.ran (YieldsList-from_slice es cc) (λ x b q k. search (rules, tests))
+    ∙ found_is es c.args.key
