@@ -18,8 +18,8 @@ use Rattle.laws.specs.Answers.{LowRowsAreHighRows, OfValues, ValuesGiveOneAnswer
 use Rattle.laws.proofs.EqualViews.{indistinguishable_equal}
 use Rattle.laws.proofs.Translation.{translation_gives}
 
-pub low-rows-high : LowRowsAreHighRows
-low-rows-high tables q row m = low-high tables q m
+pub low_rows_high : LowRowsAreHighRows
+low_rows_high tables q row m = low-high tables q m
 
 -- values alone
 all-values : (row : List Value) (a : Masked) → Memᴰ a (map value row) → IsValue a
@@ -48,8 +48,8 @@ unmasked-values tables x a s =
     let cell = mem_map_back (unmasked x) row.0 (subst (Memᴰ a) row.2 s.in_cells) in
     (valued x cell.0, cell.2)
 
-pub answers-bound : AnswersBoundTheUnmasked
-answers-bound columns tables x law q =
+pub answers_bound : AnswersBoundTheUnmasked
+answers_bound columns tables x law q =
     let faithful = lawful-faithful columns tables x law in
     let one = one_answer_lem (changed (unmasked x) tables) (unmasked-values tables x) q in
     record {
@@ -66,8 +66,8 @@ wider_sharpens_lem narrow wide broker m wider q =
     let t = translation_gives narrow wide broker m wider in
     subst (λ after. Sharpened (view narrow broker m) after change q) t.wider_view (faithful_sharpens (view narrow broker m) change t.faithful q)
 
-pub same-answers : IndistinguishableBooksGiveSameAnswers
-same-answers meaning broker a b alike q =
+pub same_answers : IndistinguishableBooksGiveSameAnswers
+same_answers meaning broker a b alike q =
     let e = indistinguishable_equal meaning broker a b alike in
     record {
       same_certain = ap (λ tables. certain tables q) e;

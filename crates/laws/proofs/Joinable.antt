@@ -24,26 +24,13 @@ use Rattle.semantics.proofs.Joined.{joined-compatible, compatible-joined}
 use Rattle.semantics.proofs.Lawful.{rows-within}
 use Rattle.semantics.proofs.Member.{mem_joined_back, mem_tabled_back}
 use Rattle.semantics.proofs.Seen.{Sight, as_value, as_variable, as_pseudonym, sight, standing, row_seen, table_seen}
-use Rattle.laws.specs.Compatible.{CompatibleMeansJoinable, CompatibleInEveryBook, CompatibleExamples}
+use Rattle.laws.specs.Compatible.{CompatibleMeansJoinable, CompatibleInEveryBook}
 
 pub compatible_joinable : CompatibleMeansJoinable
 compatible_joinable columns tables few proper r s over = (
   compatible-joined columns tables few proper r s over,
   λ h. joined-compatible columns tables h.0 h.1 r s over.left_stands over.right_stands h.2,
 )
-
-pub examples : CompatibleExamples
-examples = record {
-  two_values_for_one = refl;
-  one_value_for_two = refl;
-  through_a_variable = refl;
-  through_two_variables = refl;
-  different_pseudonyms = refl;
-  different_lengths = refl;
-  one_value_for_one = refl;
-  two_domains = refl;
-  crossed = refl;
-}
 
 -- a value of some kind is proper
 value-proper : (kind : Kind) (v : Value) → is_value_of kind v ≡ true → is_proper v ≡ true

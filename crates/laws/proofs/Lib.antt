@@ -3,8 +3,8 @@ pub mod Translation
 pub mod OwnValues
 pub mod SeenKinds
 pub mod Bounded
-pub mod Samples
 pub mod NoRepeats
 pub mod Joinable
 pub mod Bare
 pub mod Promises
+pub mod Tables

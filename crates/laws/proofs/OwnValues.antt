@@ -1,8 +1,7 @@
 -- The book's own values are a lawful valuation of its view.
-use Rattle.std.proofs.Common.{◌≡◌, ℕ, true, map, length, get_or, sym, refl, ap, ◌∙◌, subst, arith}
+use Rattle.std.proofs.Common.{◌≡◌, ℕ, true, length, get_or, sym, refl, ap, ◌∙◌, subst, arith}
 use Rattle.semantics.specs.declared.mark.Mark.{Mark}
 use Rattle.semantics.specs.Books.{Model, columns_of, rows_of, column_at}
-use Rattle.semantics.specs.Lists.{tabled}
 use Rattle.semantics.specs.Orderly.{Orderly}
 use Rattle.semantics.specs.Standing.{HasCell}
 use Rattle.semantics.specs.Valuations.{is_value_of, domain_kind, LawfulFor, valued, filled, own_values}
@@ -10,8 +9,8 @@ use Rattle.semantics.specs.Values.{Value, number}
 use Rattle.semantics.specs.Views.{Masked, variable, Place, place_of, held, domain_of, linked_values, index_of, seen, drawn}
 use Rattle.semantics.proofs.Domains.{domain-kind}
 use Rattle.semantics.proofs.Held.{held-value, has-column, rows-held}
-use Rattle.semantics.proofs.Member.{tabled-agree, map_tabled}
 use Rattle.semantics.proofs.Seen.{Sight, as_value, as_variable, as_pseudonym, sight, at-index, in_linked, standing, Bearer, bearer}
+use Rattle.laws.proofs.Tables.{tables_agree}
 use Rattle.laws.specs.Valuations.{OwnValuesAreALawfulValuation}
 
 module _ (m : Model) (good : Orderly m) (mark : Place → Mark) where
@@ -58,17 +57,8 @@ module _ (m : Model) (good : Orderly m) (mark : Place → Mark) where
 
   own-rows : filled (own_values mark m) (drawn mark m) ≡ m.tables
   own-rows =
-      map_tabled (map (map own)) (λ t. tabled (λ r. tabled (λ c. seen mark m (place_of t r c)) (length (columns_of m t))) (length (rows_of m t))) 4
-      ∙ tabled-agree
-      (λ t. map (map own) (tabled (λ r. tabled (λ c. seen mark m (place_of t r c)) (length (columns_of m t))) (length (rows_of m t))))
-      (λ t. tabled (λ r. tabled (λ c. held m (place_of t r c)) (length (columns_of m t))) (length (rows_of m t))) 4 (λ t i.
-      map_tabled (map own) (λ r. tabled (λ c. seen mark m (place_of t r c)) (length (columns_of m t))) (length (rows_of m t))
-      ∙ tabled-agree
-      (λ r. map own (tabled (λ c. seen mark m (place_of t r c)) (length (columns_of m t))))
-      (λ r. tabled (λ c. held m (place_of t r c)) (length (columns_of m t))) (length (rows_of m t)) (λ r j.
-      map_tabled own (λ c. seen mark m (place_of t r c)) (length (columns_of m t))
-      ∙ tabled-agree (λ c. own (seen mark m (place_of t r c))) (λ c. held m (place_of t r c)) (length (columns_of m t)) (λ c k.
-      own-seen (place_of t r c) (record { in_tables = i; in_rows = j; in_columns = k }))))
+      tables_agree own (λ t r c. seen mark m (place_of t r c)) (λ t r c. held m (place_of t r c)) (λ t. length (columns_of m t)) (λ t. length (rows_of m t))
+      (λ t r c i j k. own-seen (place_of t r c) (record { in_tables = i; in_rows = j; in_columns = k }))
       ∙ sym (rows-held m good)
 
 pub own_values_fill : OwnValuesAreALawfulValuation

@@ -19,7 +19,7 @@ use Rattle.semantics.proofs.Orderly.{open_orderly, store_orderly, strike_orderly
 use Rattle.semantics.proofs.Outcomes.{refuse_not, then-done, question-done}
 use Rattle.laws.specs.Runs.{CannotTell, SameOutcomes, NothingLeaks, CertainRowsStand, WiderSharpens, LawsHold}
 use Rattle.laws.proofs.Bare.{bare, on_done, bare-call, bare-after}
-use Rattle.laws.proofs.Bounded.{answers-bound, wider_sharpens_lem}
+use Rattle.laws.proofs.Bounded.{answers_bound, wider_sharpens_lem}
 use Rattle.laws.proofs.EqualViews.{indistinguishable_equal}
 use Rattle.laws.proofs.OwnValues.{own_values_fill}
 
@@ -127,7 +127,7 @@ certain_stand meaning columns cells four agree calls proper broker query work_le
       tree = h.0;
       is_read = h.1;
       is_reply = replied-done (view meaning broker m) work_length reply_length h.0 bytes h.2;
-      every_valuation = λ x law. answers-bound m.columns (view meaning broker m) x law h.0;
+      every_valuation = λ x law. answers_bound m.columns (view meaning broker m) x law h.0;
       own_lawful = own;
       own_answer = ap (λ tables. low tables h.0) (sym (fused value (valued x) (view meaning broker m)) ∙ ap (map (map (map value))) own.give_the_rows);
     }

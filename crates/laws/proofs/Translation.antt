@@ -1,11 +1,10 @@
 -- Translation of a view into a wider one.
-use Rattle.std.proofs.Common.{◌≡◌, ℕ, zero, suc, ◌<◌, ◌≤◌, Bool, true, false, cond, ◌⊎◌, List, [], ◌∷◌, map, length, sym, refl, ap, ◌∙◌, subst, ap₂, inl, inr, arith}
+use Rattle.std.proofs.Common.{◌≡◌, ℕ, zero, suc, ◌<◌, ◌≤◌, Bool, true, false, cond, ◌⊎◌, List, [], ◌∷◌, length, sym, refl, ap, ◌∙◌, subst, ap₂, inl, inr, arith}
 use mathlib.Core.List.{Memᴰ}
 use Rattle.semantics.specs.declared.mark.Mark.{Mark}
 use Rattle.semantics.specs.declared.mark.Mark.TheVariants.{Linked, Shown}
 use Rattle.semantics.specs.Books.{Model, columns_of, rows_of}
 use Rattle.semantics.specs.Faithful.{Faithful, changed}
-use Rattle.semantics.specs.Lists.{tabled}
 use Rattle.semantics.specs.Marks.{rank}
 use Rattle.semantics.specs.Standing.{HasCell, StandsIn}
 use Rattle.semantics.specs.Values.{Value}
@@ -13,9 +12,9 @@ use Rattle.semantics.specs.Views.{Masked, value, pseudonym, Place, place_of, pla
 use Rattle.semantics.specs.Wider.{Wider, LinkedBecome, same_masked, at_first, translated}
 use Rattle.semantics.proofs.Marks.{widest}
 use Rattle.semantics.proofs.Masked.{same-masked, masked_same}
-use Rattle.semantics.proofs.Member.{tabled-agree, map_tabled}
 use Rattle.semantics.proofs.Places.{mem_places, has-cell}
 use Rattle.semantics.proofs.Seen.{numbered, Sight, as_value, as_variable, as_pseudonym, sight, seen-shown, seen-linked, in_linked, index-apart, held_same, Bearer, bearer}
+use Rattle.laws.proofs.Tables.{tables_agree}
 use Rattle.laws.specs.Wider.{TranslationGivesTheWiderView}
 
 -- where the cells that look the same narrowly look the same widely, the first serves for all
@@ -133,17 +132,8 @@ module _ (m : Model) (narrow wide : Place → Mark) (wider : Wider m narrow wide
 
   pub wider-view : changed σ (drawn narrow m) ≡ drawn wide m
   wider-view =
-      map_tabled (map (map σ)) (λ t. tabled (λ r. tabled (λ c. N (place_of t r c)) (length (columns_of m t))) (length (rows_of m t))) 4
-      ∙ tabled-agree
-      (λ t. map (map σ) (tabled (λ r. tabled (λ c. N (place_of t r c)) (length (columns_of m t))) (length (rows_of m t))))
-      (λ t. tabled (λ r. tabled (λ c. W (place_of t r c)) (length (columns_of m t))) (length (rows_of m t))) 4 (λ t i.
-      map_tabled (map σ) (λ r. tabled (λ c. N (place_of t r c)) (length (columns_of m t))) (length (rows_of m t))
-      ∙ tabled-agree
-      (λ r. map σ (tabled (λ c. N (place_of t r c)) (length (columns_of m t))))
-      (λ r. tabled (λ c. W (place_of t r c)) (length (columns_of m t))) (length (rows_of m t)) (λ r j.
-      map_tabled σ (λ c. N (place_of t r c)) (length (columns_of m t))
-      ∙ tabled-agree (λ c. σ (N (place_of t r c))) (λ c. W (place_of t r c)) (length (columns_of m t)) (λ c k.
-      translates (place_of t r c) (record { in_tables = i; in_rows = j; in_columns = k }))))
+      tables_agree σ (λ t r c. N (place_of t r c)) (λ t r c. W (place_of t r c)) (λ t. length (columns_of m t)) (λ t. length (rows_of m t))
+      (λ t r c i j k. translates (place_of t r c) (record { in_tables = i; in_rows = j; in_columns = k }))
 
 pub translation_gives : TranslationGivesTheWiderView
 translation_gives narrow wide broker m h = record {

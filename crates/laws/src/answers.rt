@@ -1,11 +1,13 @@
 ghost use Rattle.laws.specs.Answers.{LowRowsAreHighRows, ValuesGiveOneAnswer, FaithfulChangesSharpen, AnswersBoundTheUnmasked, WiderPoliciesSharpen, IndistinguishableBooksGiveSameAnswers};
 
 /// What is certain is among what may be.
+#[tactic(auto, using(crate::proofs::Bounded::low_rows_high))]
 pub fn low_rows_are_high_rows()
     ensures { LowRowsAreHighRows }
 {}
 
 /// Where nothing is masked, nothing is uncertain.
+#[tactic(auto, using(crate::proofs::Bounded::values_one))]
 pub fn values_give_one_answer()
     ensures { ValuesGiveOneAnswer }
 {}
@@ -16,6 +18,7 @@ pub fn faithful_changes_sharpen()
 {}
 
 /// Whatever the masked cells hold, the answer without masks has the certain rows, and no row but certain and possible ones.
+#[tactic(auto, using(crate::proofs::Bounded::answers_bound))]
 pub fn answers_bound_the_unmasked()
     ensures { AnswersBoundTheUnmasked }
 {}

@@ -2,6 +2,7 @@ ghost use Rattle.semantics.specs.Policies.{Meaning};
 ghost use Rattle.laws.specs.Runs.{NothingLeaks, CertainRowsStand, WiderSharpens, LawsHold};
 
 /// No outcome rests on what the broker who asks may not see.
+#[tactic(auto, using(crate::proofs::Promises::nothing_leaks_lem))]
 pub fn nothing_leaks()
     ensures { (meaning : Meaning) → NothingLeaks meaning }
 {}

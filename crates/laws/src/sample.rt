@@ -12,6 +12,7 @@ pub fn sample_comparisons()
 {}
 
 /// Replies over a book of three tariffs are, byte for byte, the ones worked by hand.
+#[tactic(auto, unfolding(semantics::specs::Conditions::condition_bytes, semantics::specs::Reading::questions, semantics::specs::Records::encode, semantics::specs::Replies::reply_bytes, semantics::specs::Walks::walk))]
 pub fn sample_replies()
     ensures { SampleReplies }
 {}
