@@ -1,26 +1,23 @@
 //! One bad call of each kind. Each is refused with the first fault, and alters nothing.
 
 use crate::show;
-use anyhow::anyhow;
+use anyhow::Context;
 use book::{Book, Draft};
 use cells::{Cell, Prefix};
 use semantics::Refusal;
+use tariffs::{declare, number, prefix};
 
 /// A draft whose table 3 has eight columns, the first a prefix in domain 1.
 fn full() -> Result<Draft, Refusal> {
     let mut draft = Draft::new();
-    draft.declare(3, 2, 1)?;
-    for _ in 0..7 {
-        draft.declare(3, 1, 0)?;
-    }
+    declare(&mut draft, 3, &[prefix(1)])?;
+    declare(&mut draft, 3, &[number(0); 7])?;
     Ok(draft)
 }
 
 /// Bad declarations.
 pub(crate) fn declarations(rt: &HostRuntime) -> anyhow::Result<()> {
-    let Ok(mut draft) = full() else {
-        return Err(anyhow!("the columns were refused"));
-    };
+    let mut draft = full().context("the columns were refused")?;
     println!(rt; "Bad calls are refused, with the first fault:")?;
     show::step(rt, "declare table 4: a number", draft.declare(4, 1, 0))?;
     show::step(
@@ -45,21 +42,16 @@ pub(crate) fn declarations(rt: &HostRuntime) -> anyhow::Result<()> {
     )
 }
 
-/// Bytes that make no prefix.
-fn prefix(bytes: &[u8]) -> Result<(), Refusal> {
-    let _prefix = Prefix::from_bytes(bytes)?;
-    Ok(())
-}
-
 /// Bad calls on a book with three columns and three rows, which is full.
 pub(crate) fn calls(rt: &HostRuntime, book: &mut Book<'_>) -> anyhow::Result<()> {
-    let Ok(digits) = Prefix::from_bytes(b"47") else {
-        return Err(anyhow!("the prefix was refused"));
-    };
     let number = Cell::Number(1);
-    let prefix_cell = Cell::Prefix(digits);
-    show::step(rt, "make a prefix of 47a", prefix(b"47a"))?;
-    show::step(rt, "make a prefix of 123456789", prefix(b"123456789"))?;
+    let prefix = Cell::Prefix(Prefix::from_bytes(b"47")?);
+    show::step(rt, "make a prefix of 47a", Prefix::from_bytes(b"47a"))?;
+    show::step(
+        rt,
+        "make a prefix of 123456789",
+        Prefix::from_bytes(b"123456789"),
+    )?;
     show::step(rt, "store into table 4", book.store(4, &[number]))?;
     show::step(
         rt,
@@ -69,7 +61,7 @@ pub(crate) fn calls(rt: &HostRuntime, book: &mut Book<'_>) -> anyhow::Result<()>
     show::step(
         rt,
         "store a row with a prefix for a price",
-        book.store(0, &[prefix_cell, number, prefix_cell]),
+        book.store(0, &[prefix, number, prefix]),
     )?;
     show::step(rt, "strike row 3", book.strike(0, 3))?;
     show::step(rt, "amend row 3", book.amend(0, 3, 1, number))?;

@@ -7,8 +7,8 @@ mod show;
 mod views;
 
 use book::{Book, Draft};
-use cells::{Cell, Prefix};
-use semantics::Refusal;
+use cells::Cell;
+use tariffs::store;
 
 /// The columns: a prefix in domain 1, the carrier's number and the price.
 fn declare(rt: &HostRuntime, draft: &mut Draft) -> anyhow::Result<()> {
@@ -29,27 +29,28 @@ fn declare(rt: &HostRuntime, draft: &mut Draft) -> anyhow::Result<()> {
     )
 }
 
-/// Stores a tariff: a prefix, the carrier and the price.
-fn store(book: &mut Book<'_>, digits: &[u8], carrier: u32, price: u32) -> Result<(), Refusal> {
-    let prefix = Prefix::from_bytes(digits)?;
-    let row = [
-        Cell::Prefix(prefix),
-        Cell::Number(carrier),
-        Cell::Number(price),
-    ];
-    book.store(0, &row)
-}
-
 /// Three tariffs fit in 96 cells of memory, and a fourth does not.
 fn load(rt: &HostRuntime, book: &mut Book<'_>) -> anyhow::Result<()> {
-    show::step(rt, "store 47, carrier 1, 3100", store(book, b"47", 1, 3100))?;
+    show::step(
+        rt,
+        "store 47, carrier 1, 3100",
+        store(book, 0, b"47", 1, 3100),
+    )?;
     show::step(
         rt,
         "store 4711, carrier 2, 2750",
-        store(book, b"4711", 2, 2750),
+        store(book, 0, b"4711", 2, 2750),
     )?;
-    show::step(rt, "store 48, carrier 1, 2900", store(book, b"48", 1, 2900))?;
-    show::step(rt, "store 49, carrier 2, 3000", store(book, b"49", 2, 3000))
+    show::step(
+        rt,
+        "store 48, carrier 1, 2900",
+        store(book, 0, b"48", 1, 2900),
+    )?;
+    show::step(
+        rt,
+        "store 49, carrier 2, 3000",
+        store(book, 0, b"49", 2, 3000),
+    )
 }
 
 /// A price is amended, a row struck, and its place used again.
@@ -57,7 +58,11 @@ fn change(rt: &HostRuntime, book: &mut Book<'_>) -> anyhow::Result<()> {
     let price = Cell::Number(2600);
     show::step(rt, "amend row 1: price 2600", book.amend(0, 1, 2, price))?;
     show::step(rt, "strike row 0", book.strike(0, 0))?;
-    show::step(rt, "store 49, carrier 2, 3000", store(book, b"49", 2, 3000))
+    show::step(
+        rt,
+        "store 49, carrier 2, 3000",
+        store(book, 0, b"49", 2, 3000),
+    )
 }
 
 fn run(rt: &HostRuntime) -> anyhow::Result<()> {

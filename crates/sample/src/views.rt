@@ -1,46 +1,17 @@
 //! What brokers see: a book under filters, and a book under consents.
 
 use crate::show;
-use anyhow::anyhow;
+use anyhow::Context;
 use book::{Book, Draft};
 use cells::Cell;
-use policy::{Consents, Filters};
-use semantics::{Consent, Refusal, Rule, Sign, Test};
+use policy::Consents;
+use semantics::{Consent, Refusal};
+use tariffs::{declare, filters, number};
 use view::View;
-
-/// Broker 7 may see all three columns of table 0, but not the prefixes of carrier 2.
-fn filters() -> Result<Filters, Refusal> {
-    let mut filters = Filters::new();
-    let allow = Sign::Allow;
-    let test = Test::Always;
-    for column in 0..3 {
-        filters.add(Rule {
-            broker: 7,
-            table: 0,
-            column,
-            sign: allow,
-            test,
-        })?;
-    }
-    let test = Test::Holds {
-        column: 1,
-        number: 2,
-    };
-    filters.add(Rule {
-        broker: 7,
-        table: 0,
-        column: 0,
-        sign: Sign::Prohibit,
-        test,
-    })?;
-    Ok(filters)
-}
 
 /// The tariffs as brokers 7 and 8 see them.
 pub(crate) fn tariffs(rt: &HostRuntime, book: &Book<'_>) -> anyhow::Result<()> {
-    let Ok(filters) = filters() else {
-        return Err(anyhow!("a rule was refused"));
-    };
+    let filters = filters();
     let mut view = View::new();
     view.draw(book, &filters, 7);
     println!(rt; "Broker 7 may see all, but not the prefixes of carrier 2:")?;
@@ -73,8 +44,7 @@ fn consents() -> Result<Consents, Refusal> {
 /// Table 3 has offers: the customer, in domain 2, and the price.
 fn columns() -> Result<Draft, Refusal> {
     let mut draft = Draft::new();
-    draft.declare(3, 1, 2)?;
-    draft.declare(3, 1, 0)?;
+    declare(&mut draft, 3, &[number(2), number(0)])?;
     Ok(draft)
 }
 
@@ -88,17 +58,11 @@ fn store(book: &mut Book<'_>) -> Result<(), Refusal> {
 
 /// The offers as any broker sees them.
 pub(crate) fn offers(rt: &HostRuntime) -> anyhow::Result<()> {
-    let Ok(consents) = consents() else {
-        return Err(anyhow!("a consent was refused"));
-    };
-    let Ok(draft) = columns() else {
-        return Err(anyhow!("a column was refused"));
-    };
+    let consents = consents().context("a consent was refused")?;
+    let draft = columns().context("a column was refused")?;
     let mut memory = [Cell::Number(0); 128];
     let mut book = draft.open(&mut memory);
-    let Ok(()) = store(&mut book) else {
-        return Err(anyhow!("an offer was refused"));
-    };
+    store(&mut book).context("an offer was refused")?;
     let mut view = View::new();
     view.draw(&book, &consents, 7);
     println!(rt;

@@ -1,0 +1,7 @@
+use Rattle.std.proofs.Common.{◌≡◌, drop}
+use Rattle.book.specs.Columns.{columns_in}
+use Rattle.tariffs.specs.Columns.{declared_all}
+use Rattle.tariffs.proofs.columns.declare.Given as goal
+
+abbrev pub invariant-loop-column : goal.invariant-loop-column
+invariant-loop-column l = declared_all (columns_in l.initial.draft.tables) l.table l.columns ≡ declared_all (columns_in l.draft.tables) l.table (drop l.column-index l.columns)

@@ -1,0 +1,27 @@
+-- Columns that are declared one after another, and those of the programs.
+use Rattle.std.specs.Prelude.{ℕ, List, [], ◌∷◌}
+use Rattle.semantics.specs.declared.kind.Kind.TheVariants.{Number, Prefix}
+use Rattle.semantics.specs.declared.kind.Column.{Column}
+use Rattle.semantics.specs.Drafts.{declared}
+use Rattle.semantics.specs.Kinds.{kind_number}
+use Rattle.semantics.specs.Outcomes.{Outcome, done, and_then}
+
+-- The columns of all tables, once these are declared in table `t`.
+abbrev pub declared_all : List (List Column) → ℕ → List Column → Outcome (List (List Column))
+declared_all tables t [] = done tables
+declared_all tables t (c ∷ cs) = and_then (declared tables t (kind_number c.kind) c.domain) (λ next. declared_all next t cs)
+
+-- A column of numbers and one of prefixes, in a domain.
+abbrev pub number_in : ℕ → Column
+number_in domain = record { kind = Number; domain = domain }
+
+abbrev pub prefix_in : ℕ → Column
+prefix_in domain = record { kind = Prefix; domain = domain }
+
+-- Tariffs in table 0: a prefix in domain 1 and two numbers.
+abbrev pub tariff_tables : List (List Column)
+tariff_tables = (prefix_in 1 ∷ number_in 0 ∷ number_in 0 ∷ []) ∷ [] ∷ [] ∷ [] ∷ []
+
+-- The same, and two numbers in table 1.
+abbrev pub reader_tables : List (List Column)
+reader_tables = (prefix_in 1 ∷ number_in 0 ∷ number_in 0 ∷ []) ∷ (number_in 0 ∷ number_in 0 ∷ []) ∷ [] ∷ [] ∷ []

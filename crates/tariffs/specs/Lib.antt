@@ -1,0 +1,4 @@
+pub mod Columns
+pub mod Hexadecimal
+pub mod Rules
+pub mod Tariffs

@@ -1,0 +1,8 @@
+ghost use Rattle.std.specs.Prelude.{◌≡◌, ◌+◌, ◌%◌};
+
+/// The last decimal digit of a number, as its character.
+pub fn last_digit(number: u32) -> u8
+    ensures { result ≡ 0x30 + number % 10 }
+{
+    b'0' + (number % 10) as u8
+}

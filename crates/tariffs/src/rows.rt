@@ -1,0 +1,37 @@
+ghost use Rattle.std.specs.Prelude.{map};
+ghost use Rattle.semantics.specs.Books.{stored};
+ghost use Rattle.semantics.specs.Outcomes.{AnswersAs, Steps, Kept, and_then};
+ghost use Rattle.cells.specs.Cells.{cell_value};
+ghost use Rattle.book.specs.Books.{book_model, memory};
+ghost use Rattle.tariffs.specs.Tariffs.{tariff_row};
+
+use book::Book;
+use cells::{Cell, Prefix};
+use semantics::Refusal;
+
+/// The row of a tariff: its prefix, the carrier and the price.
+pub fn tariff(digits: &[u8], carrier: u32, price: u32) -> Result<[Cell; 3], Refusal>
+    ensures { AnswersAs (map cell_value) result (tariff_row digits.now carrier price) }
+{
+    let prefix = Prefix::from_bytes(digits)?;
+    Ok([
+        Cell::Prefix(prefix),
+        Cell::Number(carrier),
+        Cell::Number(price),
+    ])
+}
+
+/// Stores a tariff into a table.
+pub fn store(
+    book: &mut Book<'_>,
+    table: usize,
+    digits: &[u8],
+    carrier: u32,
+    price: u32,
+) -> Result<(), Refusal>
+    ensures step { Steps result (and_then (tariff_row digits.now carrier price) (stored (book_model book.old) table)) (book_model book.old) (book_model book.new) }
+    ensures kept { Kept result (memory book.old) (memory book.new) }
+{
+    let row = tariff(digits, carrier, price)?;
+    book.store(table, &row)
+}

@@ -1,0 +1,36 @@
+use crate::{filters, from_hex, last_digit, store, tariff_columns};
+use cells::{Cell, Prefix};
+use semantics::Refusal;
+use std::test::Fail;
+
+#[test]
+fn what_is_no_digit_is_passed_over(rt: HostRuntime) -> Result<(), Fail> {
+    let bytes = from_hex(rt.alloc(), "01 fF0, 9")?;
+    assert!(rt; bytes.as_slice() == [0x01, 0xf0].as_slice());
+    let none = from_hex(rt.alloc(), "a")?;
+    assert!(rt; none.is_empty());
+    Ok(())
+}
+
+#[test]
+fn a_tariff_is_stored(rt: HostRuntime) -> Result<(), Fail> {
+    let mut memory = [Cell::Number(9); 32];
+    let mut book = tariff_columns().open(&mut memory);
+    store(&mut book, 0, b"47", 1, 3100)?;
+    let wanted = [
+        Cell::Prefix(Prefix::from_bytes(b"47")?),
+        Cell::Number(1),
+        Cell::Number(3100),
+    ];
+    assert!(rt; book.row(0, 0) == Some(wanted.as_slice()));
+    assert!(rt; store(&mut book, 0, b"4x", 1, 1) == Err(Refusal::NotPrefix));
+    assert!(rt; store(&mut book, 0, b"", 1, 1) == Err(Refusal::TableFull));
+    Ok(())
+}
+
+#[test]
+fn last_digits_and_rules(rt: HostRuntime) {
+    assert_eq!(rt; last_digit(0), b'0');
+    assert_eq!(rt; last_digit(4_294_967_295), b'5');
+    assert_eq!(rt; filters().rules().len(), 4);
+}
