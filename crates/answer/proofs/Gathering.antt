@@ -7,7 +7,7 @@ use Rattle.semantics.specs.Lists.{tabled}
 use Rattle.semantics.specs.Views as semantics
 use Rattle.view.specs.declared.masked.Masked.{Masked}
 use Rattle.view.specs.declared.view.View.{View}
-use Rattle.view.specs.Views.{masked_of, masked_at, row_in, table_in, view_tables, width_in}
+use Rattle.view.specs.Views.{masked_of, masked_at, row_in, table_in, view_tables, count_in, width_in}
 use Rattle.view.proofs.Memory.{row-known}
 use Rattle.workspace.specs.declared.block.Block.{Block}
 use Rattle.workspace.specs.Blocks.{row_at, block_rows}
@@ -33,10 +33,10 @@ module _ (first limit : ℕ) (old mid : List Masked) (from : Block) (u : Untouch
 -- a row of a view is as wide as its table
 pub row_of_table : (v : View) (t r : ℕ) (xs : List Masked) → r < length (get_or (view_tables v) t []) → map masked_of xs ≡ get_or (get_or (view_tables v) t []) r [] → length xs ≡ width_in v t
 row_of_table v t r xs h is =
-    let w = get_or v.widths t 0 in
-    let n = get_or v.counts t 0 in
-    let k = row-known v.cells v.widths v.counts t r h in
-    let e = slice_index_or_tabled (λ t. table_in v.cells t (get_or v.widths t 0) (get_or v.counts t 0)) 4 t [] k.0 in
+    let w = width_in v t in
+    let n = count_in v t in
+    let k = row-known v.cells v.sizes t r h in
+    let e = slice_index_or_tabled (λ t. table_in v.cells t (width_in v t) (count_in v t)) 4 t [] k.0 in
     let f = slice_index_or_tabled (row_in v.cells t w) n r [] k.1 in
     let l = ap length (is ∙ ap (λ rows. get_or rows r []) e ∙ f) in
     sym (length-map xs masked_of) ∙ l ∙ length_tabled (λ c. masked_of (masked_at v.cells t r c)) w

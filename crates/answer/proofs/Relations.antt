@@ -19,7 +19,7 @@ use Rattle.semantics.proofs.Pieces.{every-apart}
 use Rattle.semantics.proofs.Repeats.{low-shorter}
 use Rattle.laws.specs.Repeats.{RowsFit}
 use Rattle.view.specs.declared.view.View.{View}
-use Rattle.view.specs.Views.{masked_of, masked_at, row_in, table_in, view_tables, width_in}
+use Rattle.view.specs.Views.{masked_of, masked_at, row_in, table_in, view_tables, count_in, width_in}
 use Rattle.answer.specs.declared.bound.Bound.{Bound}
 use Rattle.answer.specs.declared.bound.Bound.TheVariants.{Low, High}
 use Rattle.answer.specs.Bounds.{answer_of, other, keeps, takes_out}
@@ -124,11 +124,11 @@ module _ (columns : List (List Column)) where
       where
         go : (t < 4) ⊎ (4 ≤ t) → length row ≡ length (get_or columns t [])
         go (inl h) =
-            let e = slice_index_or_tabled (λ t. table_in v.cells t (get_or v.widths t 0) (get_or v.counts t 0)) 4 t [] h in
-            let k = mem_tabled_back (row_in v.cells t (get_or v.widths t 0)) (get_or v.counts t 0) (subst (λ rows. Memᴰ row rows) e m) in
-            ap length k.2 ∙ length_tabled (λ c. masked_of (masked_at v.cells t k.0 c)) (get_or v.widths t 0) ∙ wide t
+            let e = slice_index_or_tabled (λ t. table_in v.cells t (width_in v t) (count_in v t)) 4 t [] h in
+            let k = mem_tabled_back (row_in v.cells t (width_in v t)) (count_in v t) (subst (λ rows. Memᴰ row rows) e m) in
+            ap length k.2 ∙ length_tabled (λ c. masked_of (masked_at v.cells t k.0 c)) (width_in v t) ∙ wide t
         go (inr h) =
-            let l = length_tabled (λ t. table_in v.cells t (get_or v.widths t 0) (get_or v.counts t 0)) 4 in
+            let l = length_tabled (λ t. table_in v.cells t (width_in v t) (count_in v t)) 4 in
             let none : Memᴰ row [] = subst (λ rows. Memᴰ row rows) (get_or_past (view_tables v) t [] (omega arith)) m in
             elim none [ ]
 

@@ -1,5 +1,5 @@
 -- One more cell of a view.
-use Rattle.std.proofs.Common.{◌≡◌, ℕ, zero, suc, ◌+◌, ◌<◌, ◌≤◌, Bool, true, false, cond, not, ◌&&◌, ◌||◌, eqb, ltb, leb, ◌≢◌, List, [], length, get_or, set, Some, None, sym, refl, ap, ◌∙◌, subst, ⊎_elim, arith}
+use Rattle.std.proofs.Common.{◌≡◌, ℕ, zero, suc, ◌+◌, ◌<◌, ◌≤◌, Bool, true, false, cond, not, ◌&&◌, ◌||◌, eqb, ltb, ◌≢◌, List, [], ◌∷◌, length, get_or, set, Some, None, sym, refl, ap, ◌∙◌, subst, ⊎_elim, arith}
 use Rattle.std.proofs.lemmas.List.{get_or_past, get_or-set_same, get_or-set_other, length-set}
 use Rattle.std.proofs.lemmas.Bool.{and_parts, and_from, cases_Bool, cases_lt, cases_eq, eqb-true, eq-eqb, ne_eqb, le-leb}
 use Rattle.std.proofs.lemmas.Bool.Decides.{nat_tests}
@@ -12,19 +12,27 @@ use Rattle.semantics.specs.Policies.{Meaning}
 use Rattle.semantics.specs.Values as values
 use Rattle.semantics.specs.Views as semantics
 use Rattle.semantics.specs.Views.{Place, place_of, held, domain_of, linked_values, index_of, marks, masked, row_of, seen}
-use Rattle.semantics.proofs.Drawing.{same-equal, index-new, every_counting}
+use Rattle.semantics.proofs.Drawing.{same-equal, index-new}
 use Rattle.cells.specs.declared.cell.Cell.TheVariants.{Number}
 use Rattle.book.specs.declared.book.Book.{Book}
 use Rattle.book.specs.Books.{book_model}
 use Rattle.book.specs.Layout.{place}
-use Rattle.book.proofs.Tabled.{slice_index_or_tabled, tabled-same}
+use Rattle.book.proofs.Tabled.{tabled-same}
 use Rattle.view.specs.declared.masked.Masked.{Masked}
 use Rattle.view.specs.declared.masked.Masked.TheVariants.{Value, Variable, Pseudonym}
+use Rattle.view.specs.declared.size.Size.{Size}
+use Rattle.view.specs.Sizes.{size_at, is_size}
 use Rattle.view.specs.Views.{masked_of, masked_at, row_in, table_in, tables_in}
-use Rattle.view.specs.Drawing.{cell_of, places_before, Before, linked_among, is_pseudonym, index_in, Found, InDomain, Indexed, Raised, Drawn, AllDrawn, Masks}
+use Rattle.view.specs.Drawing.{cell_of, places_before, Before, linked_among, is_pseudonym, index_in, Found, InDomain, Indexed, counted, HasNumber, Drawn, AllDrawn, Masks}
 use Rattle.view.proofs.Books.{width-le, count-le, domain_lt, no-columns}
 use Rattle.view.proofs.Finding.{same_place}
 use Rattle.view.proofs.Order.{before-none, before-cell, before-row, before-table, before_split, before_length, every-before, linked-more, linked-none, linked-le, linked-split, linked-every}
+
+-- the numbers of the linked cells so far, after one more cell with this mark and domain
+abbrev pub Raised : Mark → ℕ → List ℕ → List ℕ → Type 0
+Raised mark domain old new =
+    (length new ≡ length old)
+    × ((d : ℕ) → 1 ≤ d → d < 16 → get_or new d 0 ≡ get_or old d 0 + cond (is_mark mark Linked && eqb domain d) 1 0)
 
 never : {X : Type 0} → ◌≡◌ {A = ℕ} 0 1 → X
 never e = absurd (omega arith)
@@ -125,7 +133,10 @@ module _ (mark : Place → Mark) (m : Model) (cells : List Masked) (numbers : Li
         let n = few t in
         omega arith
 
-    module _ (x : Masked) (masks : Masks cells m (mark (place_of t r c)) (place_of t r c) (get_or numbers (domain_of m (place_of t r c)) 0) x) (low : domain_of m (place_of t r c) < 16) (size : length cells ≡ 8192) where
+    module _ (x : Masked) (masks : Masks cells m (mark (place_of t r c)) (place_of t r c) (get_or numbers (domain_of m (place_of t r c)) 0) x) (low : domain_of m (place_of t r c) < 16) where
+      size : length cells ≡ 8192
+      size = drawn.whole
+
       is_seen : masked_of x ≡ seen mark m (place_of t r c)
       is_seen =
           masks.is
@@ -157,6 +168,7 @@ module _ (mark : Place → Mark) (m : Model) (cells : List Masked) (numbers : Li
             ∙ (ap (λ n. n + cond (is_mark (mark (place_of t r c)) Linked && eqb (domain_of m (place_of t r c)) d) 1 0) (drawn.counted d a b)
             ∙ (sym (linked-more mark m d (places_before m (place_of t r c)) (place_of t r c))
             ∙ ap (λ ps. length (linked_among mark m d ps)) (sym (before-cell m t r c))));
+        whole = length-set cells (place t r c) x ∙ drawn.whole;
         sixteen = raised.0 ∙ drawn.sixteen;
       }
 
@@ -165,6 +177,7 @@ module _ (mark : Place → Mark) (m : Model) (cells : List Masked) (numbers : Li
   drawn-row t r drawn = record {
     cellwise = λ q b. drawn.cellwise q (b.0, b.1, step_row (length (rows_of m q.table)) q.table q.column q.row t r 0 (length (columns_of m t)) b.0 (λ e. subst (λ u. q.column < length (columns_of m u)) e b.1) b.2);
     counted = λ d a b. drawn.counted d a b ∙ ap (λ ps. length (linked_among mark m d ps)) (sym (before-row m t r));
+    whole = drawn.whole;
     sixteen = drawn.sixteen;
   }
 
@@ -174,6 +187,7 @@ module _ (mark : Place → Mark) (m : Model) (cells : List Masked) (numbers : Li
         let s = step-table (length (rows_of m q.table)) q.table q.column q.row t 0 0 b.0 b.2 in
         drawn.cellwise q (s.0, b.1, within q.table q.row q.column t s.0 s.1);
     counted = λ d a b. drawn.counted d a b ∙ ap (λ ps. length (linked_among mark m d ps)) (sym (before-table m t));
+    whole = drawn.whole;
     sixteen = drawn.sixteen;
   }
     where
@@ -185,10 +199,11 @@ module _ (mark : Place → Mark) (m : Model) (cells : List Masked) (numbers : Li
           (cases_eq u t)
 
   -- nothing is drawn yet
-  pub drawn-none : length numbers ≡ 16 → ((d : ℕ) → get_or numbers d 0 ≡ 0) → Drawn mark m (place_of 0 0 0) cells numbers
-  drawn-none size zeros = record {
+  pub drawn-none : length cells ≡ 8192 → length numbers ≡ 16 → ((d : ℕ) → get_or numbers d 0 ≡ 0) → Drawn mark m (place_of 0 0 0) cells numbers
+  drawn-none whole size zeros = record {
     cellwise = λ q b. absurd (nothing (length (rows_of m q.table)) q.table q.column q.row b.2);
     counted = λ d a b. zeros d ∙ (sym (linked-none mark m d) ∙ ap (λ ps. length (linked_among mark m d ps)) (sym (before-none m)));
+    whole = whole;
     sixteen = size;
   }
     where
@@ -197,21 +212,7 @@ module _ (mark : Place → Mark) (m : Model) (cells : List Masked) (numbers : Li
 
 -- a linked cell of a domain: its pseudonym, and the number that is raised
 module _ (mark : Mark) (d : ℕ) (link : mark ≡ Linked) (some : 1 ≤ d) where
-  masked-linked : (p : Place) (v : values.Value) (i : ℕ) → semantics.pseudonym d i ≡ masked mark d p v i
-  masked-linked p v i = sym (ap (λ k. masked k d p v i) link ∙ at d some)
-    where
-      at : (d : ℕ) → 1 ≤ d → masked Linked d p v i ≡ semantics.pseudonym d i
-      at zero h = absurd (omega arith)
-      at (suc d) h = refl
-
-  pub masks_linked : (cells : List Masked) (m : Model) (p : Place) (numbers : List ℕ) (n : ℕ) (v : values.Value) → d ≡ domain_of m p → v ≡ held m p → Indexed cells m v (InDomain m p d) (get_or numbers d 0) n → Masks cells m mark p (get_or numbers (domain_of m p) 0) (Pseudonym d n)
-  masks_linked cells m p numbers n v e f i = record {
-    index = n;
-    is = masked-linked p (held m p) n ∙ ap (λ x. masked mark x p (held m p) n) e;
-    indexed = λ a b. subst (λ x. Indexed cells m (held m p) (InDomain m p x) (get_or numbers x 0) n) e (subst (λ w. Indexed cells m w (InDomain m p d) (get_or numbers d 0) n) f i);
-  }
-
-  pub raised-linked : (x : ℕ) (old new : List ℕ) → d ≡ x → length old ≡ 16 → d < 16 → new ≡ set old d (get_or old d 0 + 1) → Raised mark x old new
+  raised-linked : (x : ℕ) (old new : List ℕ) → d ≡ x → length old ≡ 16 → d < 16 → new ≡ set old d (get_or old d 0 + 1) → Raised mark x old new
   raised-linked x old new e size few is = (
     ap length is ∙ length-set old d (get_or old d 0 + 1),
     λ k a b. ap (λ xs. get_or xs k 0) is ∙ (at k ∙ ap (λ t. get_or old k 0 + cond t 1 0) (sym (linked k))),
@@ -231,18 +232,61 @@ module _ (mark : Mark) (d : ℕ) (link : mark ≡ Linked) (some : 1 ≤ d) where
 pub mark-is : (meaning : Meaning) (broker : ℕ) (m : Model) (p : Place) (k : Mark) (vs : List values.Value) → k ≡ meaning broker p.table vs p.column → vs ≡ row_of m p → k ≡ marks meaning broker m p
 mark-is meaning broker m p k vs asked row = asked ∙ ap (λ vs. meaning broker p.table vs p.column) row
 
--- the next cell of a book's row: `k` is its mark, `x` how it is masked
-module _ (b : Book) (mark : Place → Mark) (cells : List Masked) (numbers : List ℕ) (t r c : ℕ) (drawn : Drawn mark (book_model b) (place_of t r c) cells numbers) (in_table : t < 4) (in_row : r < length (rows_of (book_model b) t)) (in-column : c < length (columns_of (book_model b) t)) where
-  pub next-number : (d : ℕ) → 1 ≤ d → d < 16 → get_or numbers d 0 < 8192
-  next-number = drawn-number mark (book_model b) cells numbers t r c drawn (width-le b) (count-le b) in_table in_row in-column
+-- what the masked cell tells of the mark
+pseudonym-mark : (mark : Mark) (d : ℕ) (p : Place) (v : values.Value) (i e n : ℕ) → semantics.pseudonym e n ≡ masked mark d p v i → (mark ≡ Linked) × (1 ≤ d) × (e ≡ d)
+pseudonym-mark Hidden d p v i e n is = never cc
+pseudonym-mark Linked zero p v i e n is = never cc
+pseudonym-mark Linked (suc d) p v i e n is = (refl, omega arith, cc)
+pseudonym-mark Shown d p v i e n is = never cc
 
-  pub next-cell : (k : Mark) (x : Masked) (out : List Masked) (new : List ℕ) → length cells ≡ 8192 → k ≡ mark (place_of t r c) → Masks cells (book_model b) k (place_of t r c) (get_or numbers (domain_of (book_model b) (place_of t r c)) 0) x → Raised k (domain_of (book_model b) (place_of t r c)) numbers new → out ≡ set cells (place t r c) x → Drawn mark (book_model b) (place_of t r (c + 1)) out new
-  next-cell k x out new size e masks raised is =
+-- a cell that is no pseudonym raises no number, and a pseudonym that of its domain
+module _ (mark : Mark) (d : ℕ) (p : Place) (v : values.Value) (i : ℕ) (old : List ℕ) where
+  unraised : (x : Masked) → masked_of x ≡ masked mark d p v i → is_pseudonym x ≡ false → Raised mark d old old
+  unraised x is plain = (refl, λ k some few. at k some)
+    where
+      unlinked : (k : ℕ) → 1 ≤ k → (is_mark mark Linked && eqb d k) ≡ true → ⊥
+      unlinked k some e =
+          let h = and_parts (is_mark mark Linked) (eqb d k) e in
+          let l = linked-pseudonym x mark d p v i is h.0 (let f = eqb-true d k h.1 in omega arith) in
+          never cc
+
+      at : (k : ℕ) → 1 ≤ k → get_or old k 0 ≡ get_or old k 0 + cond (is_mark mark Linked && eqb d k) 1 0
+      at k some =
+          ⊎_elim
+          (λ (e : (is_mark mark Linked && eqb d k) ≡ true). absurd (unlinked k some e))
+          (λ (e : (is_mark mark Linked && eqb d k) ≡ false). rw e (omega arith))
+          (cases_Bool (is_mark mark Linked && eqb d k))
+
+  raised : (x : Masked) → masked_of x ≡ masked mark d p v i → d < 16 → length old ≡ 16 → Raised mark d old (counted old x)
+  raised (Value y) is few sixteen = unraised (Value y) is refl
+  raised (Variable t r c) is few sixteen = unraised (Variable t r c) is refl
+  raised (Pseudonym e n) is few sixteen =
+      let h = pseudonym-mark mark d p v i e n is in
+      raised-linked mark d h.0 h.1 d old (counted old (Pseudonym e n)) refl sixteen few (ap (λ k. set old k (get_or old k 0 + 1)) h.2)
+
+  has-number : (x : Masked) → masked_of x ≡ masked mark d p v i → d < 16 → ((k : ℕ) → 1 ≤ k → k < 16 → get_or old k 0 < 8192) → HasNumber old x
+  has-number (Value y) is few room = tt
+  has-number (Variable t r c) is few room = tt
+  has-number (Pseudonym e n) is few room =
+      let h = pseudonym-mark mark d p v i e n is in
+      subst (λ k. (k < 16) × (get_or old k 0 < 8192)) (sym h.2) (few, room d h.1 few)
+
+-- the next cell of a book's row: `k` is its mark, `x` how it is masked
+module _ (b : Book) (mark : Place → Mark) (cells : List Masked) (numbers : List ℕ) (t r c : ℕ) (drawn : Drawn mark (book_model b) (place_of t r c) cells numbers) (in_table : t < 4) (in_row : r < length (rows_of (book_model b) t)) (in-column : c < length (columns_of (book_model b) t)) (k : Mark) (x : Masked) (masks : Masks cells (book_model b) k (place_of t r c) (get_or numbers (domain_of (book_model b) (place_of t r c)) 0) x) where
+  pub next-number : HasNumber numbers x
+  next-number =
+      has-number k (domain_of (book_model b) (place_of t r c)) (place_of t r c) _ masks.index numbers x masks.is (domain_lt b t c)
+      (drawn-number mark (book_model b) cells numbers t r c drawn (width-le b) (count-le b) in_table in_row in-column)
+
+  pub next-cell : (out : List Masked) (new : List ℕ) → k ≡ mark (place_of t r c) → new ≡ counted numbers x → out ≡ set cells (place t r c) x → Drawn mark (book_model b) (place_of t r (c + 1)) out new
+  next-cell out new e count is =
       subst (λ out. Drawn mark (book_model b) (place_of t r (c + 1)) out new) (sym is)
       (drawn-cell mark (book_model b) cells numbers t r c drawn (width-le b) (count-le b) in_table in_row in-column x
       (subst (λ k. Masks cells (book_model b) k (place_of t r c) (get_or numbers (domain_of (book_model b) (place_of t r c)) 0) x) e masks)
-      (domain_lt b t c) size new
-      (subst (λ k. Raised k (domain_of (book_model b) (place_of t r c)) numbers new) e raised))
+      (domain_lt b t c) new
+      (subst (λ k. Raised k (domain_of (book_model b) (place_of t r c)) numbers new) e
+      (subst (Raised k (domain_of (book_model b) (place_of t r c)) numbers) (sym count)
+      (raised k (domain_of (book_model b) (place_of t r c)) (place_of t r c) _ masks.index numbers x masks.is (domain_lt b t c) drawn.sixteen))))
 
 -- all is drawn
 pub drawn-all : (mark : Place → Mark) (m : Model) (cells : List Masked) (numbers : List ℕ) → Drawn mark m (place_of 4 0 0) cells numbers → AllDrawn mark m cells
@@ -251,33 +295,41 @@ drawn-all mark m cells numbers drawn t r c a b d = drawn.cellwise (place_of t r 
     within : (n u k s : ℕ) → u < 4 → s < n → s < cond (ltb u 4) n (cond (ltb k 0) 1 0)
     within n u k s low h = grind (arith, nat_tests)
 
-pub view-is : (mark : Place → Mark) (m : Model) (cells : List Masked) (ws ns : List ℕ) → AllDrawn mark m cells → ws ≡ tabled (λ t. length (columns_of m t)) 4 → ns ≡ tabled (λ t. length (rows_of m t)) 4 → tables_in cells ws ns ≡ semantics.drawn mark m
-view-is mark m cells ws ns all we ne =
-    tabled-same (λ t. table_in cells t (get_or ws t 0) (get_or ns t 0)) (λ t. tabled (λ r. tabled (λ c. seen mark m (place_of t r c)) (length (columns_of m t))) (length (rows_of m t))) 4 []
-    (λ t a.
-    ap (λ w. table_in cells t w (get_or ns t 0)) (ap (λ xs. get_or xs t 0) we ∙ slice_index_or_tabled (λ t. length (columns_of m t)) 4 t 0 a)
-    ∙ (ap (table_in cells t (length (columns_of m t))) (ap (λ xs. get_or xs t 0) ne ∙ slice_index_or_tabled (λ t. length (rows_of m t)) 4 t 0 a)
-    ∙ tabled-same (row_in cells t (length (columns_of m t))) (λ r. tabled (λ c. seen mark m (place_of t r c)) (length (columns_of m t))) (length (rows_of m t)) []
-    (λ r b. tabled-same (λ c. masked_of (masked_at cells t r c)) (λ c. seen mark m (place_of t r c)) (length (columns_of m t)) (masked_of (Value (Number 0))) (λ c d. all t r c a b d))))
+-- a test that each element passes
+every-all : {X : Type 0} (p : X → Bool) (xs : List X) (d : X) → ((i : ℕ) → i < length xs → p (get_or xs i d) ≡ true) → every p xs ≡ true
+every-all p [] d h = refl
+every-all p (x ∷ xs) d h = and_from (p x) (every p xs) (h 0 (omega arith)) (every-all p xs d (λ i l. h (suc i) (omega arith)))
 
--- the numbers of rows and columns that a view takes over
-module _ (b : Book) where
-  pub widths_at : (ws : List ℕ) → ws ≡ tabled (λ t. length (columns_of (book_model b) t)) 4 → (t : ℕ) → get_or ws t 0 ≡ length (columns_of (book_model b) t)
-  widths_at ws e t =
-      ap (λ xs. get_or xs t 0) e
-      ∙ ⊎_elim
-      (λ (a : t < 4). slice_index_or_tabled (λ t. length (columns_of (book_model b) t)) 4 t 0 a)
-      (λ (a : 4 ≤ t). get_or_past (tabled (λ t. length (columns_of (book_model b) t)) 4) t 0 a ∙ sym (ap length (no-columns b t a)))
+-- the sizes that a view takes over
+module _ (m : Model) (sizes : List Size) where
+  -- each is that of the book's table
+  abbrev pub AreSizes : Type 0
+  AreSizes = (length sizes ≡ 4) × ((t : ℕ) → t < 4 → ((size_at sizes t).rows ≡ length (rows_of m t)) × ((size_at sizes t).columns ≡ length (columns_of m t)))
+
+  pub view-is : (mark : Place → Mark) (cells : List Masked) → AllDrawn mark m cells → AreSizes → tables_in cells sizes ≡ semantics.drawn mark m
+  view-is mark cells all are =
+      tabled-same (λ t. table_in cells t (size_at sizes t).columns (size_at sizes t).rows) (λ t. tabled (λ r. tabled (λ c. seen mark m (place_of t r c)) (length (columns_of m t))) (length (rows_of m t))) 4 []
+      (λ t a.
+      ap (λ w. table_in cells t w (size_at sizes t).rows) (are.1 t a).1
+      ∙ (ap (table_in cells t (length (columns_of m t))) (are.1 t a).0
+      ∙ tabled-same (row_in cells t (length (columns_of m t))) (λ r. tabled (λ c. seen mark m (place_of t r c)) (length (columns_of m t))) (length (rows_of m t)) []
+      (λ r b. tabled-same (λ c. masked_of (masked_at cells t r c)) (λ c. seen mark m (place_of t r c)) (length (columns_of m t)) (masked_of (Value (Number 0))) (λ c d. all t r c a b d))))
+
+module _ (b : Book) (sizes : List Size) (are : AreSizes (book_model b) sizes) where
+  pub widths-are : (t : ℕ) → (size_at sizes t).columns ≡ length (columns_of (book_model b) t)
+  widths-are t =
+      ⊎_elim
+      (λ (a : t < 4). (are.1 t a).1)
+      (λ (a : 4 ≤ t). ap (λ (s : Size). s.columns) (get_or_past sizes t _ (omega (arith, are.0))) ∙ sym (ap length (no-columns b t a)))
       (cases_lt t 4)
 
-  pub widths_kept : (ws : List ℕ) → ws ≡ tabled (λ t. length (columns_of (book_model b) t)) 4 → (length ws ≡ 4) × (every (λ n. leb n 8) ws ≡ true)
-  widths_kept ws e = (
-    ap length e,
-    ap (every (λ n. leb n 8)) e ∙ every_counting (λ t. length (columns_of (book_model b) t)) (λ n. leb n 8) 0 4 (λ k x y. le-leb _ 8 (width-le b k)),
-  )
-
-  pub counts-kept : (ns : List ℕ) → ns ≡ tabled (λ t. length (rows_of (book_model b) t)) 4 → (length ns ≡ 4) × (every (λ n. leb n 256) ns ≡ true)
-  counts-kept ns e = (
-    ap length e,
-    ap (every (λ n. leb n 256)) e ∙ every_counting (λ t. length (rows_of (book_model b) t)) (λ n. leb n 256) 0 4 (λ k x y. le-leb _ 256 (count-le b k)),
-  )
+  pub sizes-low : every is_size sizes ≡ true
+  sizes-low = every-all is_size sizes (record { rows = 0; columns = 0 }) (λ t h. low t (omega (arith, are.0)))
+    where
+      low : (t : ℕ) → t < 4 → is_size (size_at sizes t) ≡ true
+      low t a =
+          let n = count-le b t in
+          let w = width-le b t in
+          let rows : (size_at sizes t).rows ≤ 256 = (let e = (are.1 t a).0 in omega arith) in
+          let columns : (size_at sizes t).columns ≤ 8 = (let e = (are.1 t a).1 in omega arith) in
+          and_from _ _ (le-leb _ 256 rows) (le-leb _ 8 columns)

@@ -1,5 +1,5 @@
 -- How far a view is drawn: cell by cell, in order of table, row and column.
-use Rattle.std.specs.Prelude.{◌≡◌, ℕ, ◌+◌, ◌<◌, ◌≤◌, Bool, true, false, cond, ◌&&◌, ◌⊎◌, List, ◌++◌, map, length, Some, None, filter, Option, ◌==◌, nat_lt, slice_index}
+use Rattle.std.specs.Prelude.{◌≡◌, ℕ, ◌+◌, ◌<◌, ◌≤◌, Bool, true, false, cond, ◌&&◌, ◌⊎◌, List, ◌++◌, map, length, Some, None, filter, Option, ◌==◌, nat_lt, slice_index, slice_set, ⊤}
 use Rattle.std.specs.List.{range_with_len, flat_map}
 use Rattle.semantics.specs.declared.mark.Mark.{Mark}
 use Rattle.semantics.specs.declared.mark.Mark.TheVariants.{Linked}
@@ -11,12 +11,7 @@ use Rattle.semantics.specs.Values.{Value, same_value}
 use Rattle.semantics.specs.Views.{Place, place_of, held, domain_of, marks, seen, masked}
 use Rattle.view.specs.declared.masked.Masked.{Masked}
 use Rattle.view.specs.declared.masked.Masked.TheVariants as code
-use Rattle.view.specs.declared.position.Position.{Position}
 use Rattle.view.specs.Views.{masked_of, masked_at}
-
--- The place that a position of the code stands for.
-abbrev pub place_at : Position → Place
-place_at p = place_of p.table p.row p.column
 
 -- The cell of a view at a place.
 abbrev pub cell_of : List Masked → Place → Masked
@@ -69,14 +64,6 @@ abbrev pub Found : List Masked → Model → Value → (Place → Type 0) → Op
 Found cells m v Among None = (q : Place) → Among q → bears cells m v q ≡ false
 Found cells m v Among (Some n) = (q : Place) × Among q × (bears cells m v q ≡ true) × (index_in (cell_of cells q) ≡ n)
 
--- The cells of one column, in its first rows.
-abbrev pub InColumn : ℕ → ℕ → ℕ → Place → Type 0
-InColumn t c rows q = (q.table ≡ t) × (q.column ≡ c) × (q.row < rows)
-
--- The cells before a place in the columns of a domain, of one table.
-abbrev pub InTable : Model → Place → ℕ → ℕ → Place → Type 0
-InTable m p domain t q = Before m p q × (domain_of m q ≡ domain) × (q.table ≡ t)
-
 -- The cells before a place in the columns of a domain.
 abbrev pub InDomain : Model → Place → ℕ → Place → Type 0
 InDomain m p domain q = Before m p q × (domain_of m q ≡ domain)
@@ -85,16 +72,23 @@ InDomain m p domain q = Before m p q × (domain_of m q ≡ domain)
 abbrev pub Indexed : List Masked → Model → Value → (Place → Type 0) → ℕ → ℕ → Type 0
 Indexed cells m v Among next n = Found cells m v Among (Some n) ⊎ (Found cells m v Among None × (n ≡ next))
 
--- The numbers of the linked cells so far, after one more cell with this mark and domain.
-abbrev pub Raised : Mark → ℕ → List ℕ → List ℕ → Type 0
-Raised mark domain old new =
-    (length new ≡ length old)
-    × ((d : ℕ) → 1 ≤ d → d < 16 → slice_index new d ≡ slice_index old d + cond (is_mark mark Linked && domain == d) 1 0)
+-- The numbers of the domains, after one more cell: a pseudonym raises the number of its domain.
+abbrev pub counted : List ℕ → Masked → List ℕ
+counted numbers (code.Value x) = numbers
+counted numbers (code.Variable t r c) = numbers
+counted numbers (code.Pseudonym d n) = slice_set numbers d (slice_index numbers d + 1)
+
+-- A pseudonym's domain has a number, which may be raised.
+abbrev pub HasNumber : List ℕ → Masked → Type 0
+HasNumber numbers (code.Value x) = ⊤
+HasNumber numbers (code.Variable t r c) = ⊤
+HasNumber numbers (code.Pseudonym d n) = (d < 16) × (slice_index numbers d < 8192)
 
 -- The view is drawn up to a place: every cell before it is as it is seen, and the linked cells of each domain are counted.
 pub record Drawn (mark : Place → Mark) (m : Model) (p : Place) (cells : List Masked) (numbers : List ℕ) : Type 0 where
   pub cellwise : (q : Place) → Before m p q → masked_of (cell_of cells q) ≡ seen mark m q
   pub counted : (d : ℕ) → 1 ≤ d → d < 16 → slice_index numbers d ≡ length (linked_among mark m d (places_before m p))
+  pub whole : length cells ≡ 8192
   pub sixteen : length numbers ≡ 16
 
 -- The same under a policy, for a broker.

@@ -1,2 +1,5 @@
+pub mod Sizes
 pub mod Views
+pub mod Positions
 pub mod Drawing
+pub mod Searching

@@ -1,5 +1,5 @@
 -- The view that a structure of the code stands for.
-use Rattle.std.specs.Prelude.{◌≡◌, ℕ, ◌<◌, ◌≤◌, List, [], map, length, Some, None, Option, slice_index, slice_index_or}
+use Rattle.std.specs.Prelude.{◌≡◌, ℕ, ◌<◌, ◌≤◌, List, [], map, length, Some, None, Option, slice_index_or}
 use Rattle.std.specs.Borrow.{Bor}
 use Rattle.semantics.specs.Lists.{tabled}
 use Rattle.semantics.specs.Views as semantics
@@ -8,7 +8,9 @@ use Rattle.cells.specs.Cells.{cell_value}
 use Rattle.book.specs.Layout.{place}
 use Rattle.view.specs.declared.masked.Masked.{Masked}
 use Rattle.view.specs.declared.masked.Masked.TheVariants.{Value, Variable, Pseudonym}
+use Rattle.view.specs.declared.size.Size.{Size}
 use Rattle.view.specs.declared.view.View.{View}
+use Rattle.view.specs.Sizes.{size_at}
 
 -- The masked cell that a structure stands for.
 abbrev pub masked_of : Masked → semantics.Masked
@@ -27,15 +29,18 @@ row_in cells t width r = tabled (λ c. masked_of (masked_at cells t r c)) width
 abbrev pub table_in : List Masked → ℕ → ℕ → ℕ → List (List semantics.Masked)
 table_in cells t width count = tabled (row_in cells t width) count
 
-abbrev pub tables_in : List Masked → List ℕ → List ℕ → List (List (List semantics.Masked))
-tables_in cells widths counts = tabled (λ t. table_in cells t (slice_index widths t) (slice_index counts t)) 4
+abbrev pub tables_in : List Masked → List Size → List (List (List semantics.Masked))
+tables_in cells sizes = tabled (λ t. table_in cells t (size_at sizes t).columns (size_at sizes t).rows) 4
 
 abbrev pub view_tables : View → List (List (List semantics.Masked))
-view_tables v = tables_in v.cells v.widths v.counts
+view_tables v = tables_in v.cells v.sizes
 
--- How many columns a table of the view has.
+-- How many rows and columns a table of the view has.
+abbrev pub count_in : View → ℕ → ℕ
+count_in v t = (size_at v.sizes t).rows
+
 abbrev pub width_in : View → ℕ → ℕ
-width_in v t = slice_index v.widths t
+width_in v t = (size_at v.sizes t).columns
 
 -- The cells of a row, or none where the table has no such row.
 abbrev pub RowSeen : List (List (List semantics.Masked)) → ℕ → ℕ → Option (Bor (List Masked)) → Type 0

@@ -1,114 +1,103 @@
 ghost use Rattle.std.specs.Prelude.{◌≡◌, ℕ, ◌+◌, ◌<◌, length, slice_set};
 ghost use Rattle.book.specs.Layout.{place};
 ghost use Rattle.semantics.specs.Books.{columns_of, rows_of};
-ghost use Rattle.semantics.specs.Lists.{tabled};
 ghost use Rattle.semantics.specs.Views.{Place, drawn, marks, place_of, view};
 ghost use Rattle.semantics.specs.declared.mark.Mark.{Mark};
 ghost use Rattle.book.specs.Books.{book_model};
-ghost use Rattle.view.specs.Drawing.{AllDrawn, DrawnFor};
+ghost use Rattle.view.specs.Drawing.{AllDrawn, DrawnFor, HasNumber, counted};
+ghost use Rattle.view.specs.Sizes.{size_at};
 ghost use Rattle.view.specs.Views.{view_tables, width_in};
 
 use crate::mask::mask;
 use crate::masked::Masked;
 use crate::position::Position;
+use crate::size::Size;
 use crate::view::View;
-use book::Book;
+use book::{Book, Slot};
 use policy::Policy;
+use std::array;
 
-/// Writes the cell at a position.
-fn put(cells: &mut [Masked], at: Position, masked: Masked)
-    requires { (length cells.old ≡ 8192) × ((at.table < 4) × ((at.row < 256) × (at.column < 8))) }
-    ensures { cells.new ≡ slice_set cells.old (place at.table at.row at.column) masked }
+/// Writes the cell at a position, and counts it where it is a pseudonym: `numbers` has how many
+/// linked cells of each domain are drawn.
+fn put(cells: &mut [Masked; 8192], numbers: &mut [u16; 16], at: Position, masked: Masked)
+    requires { HasNumber numbers.old masked }
+    ensures cell { cells.new ≡ slice_set cells.old (place at.slot.table at.slot.row at.column) masked }
+    ensures counted { numbers.new ≡ counted numbers.old masked }
 {
-    cells[32 * at.row + 8 * at.table + at.column] = masked;
+    cells[at.index()] = masked;
+    if let Masked::Pseudonym { domain, index: _ } = masked {
+        numbers[usize::from(domain)] += 1;
+    }
 }
 
-/// Draws a row, all cells before which are drawn; `numbers` counts the linked cells of each domain.
-fn draw_row<P: Policy>(
-    cells: &mut [Masked],
-    numbers: &mut [u16; 16],
-    book: &Book<'_>,
-    policy: &P,
+/// What is drawn: a book, as a broker sees it under a policy.
+#[derive(Drop)]
+struct Scene<'d, P> {
+    book: &'d Book<'d>,
+    policy: &'d P,
     broker: u16,
-    table: usize,
-    row: usize,
-)
-    requires fits { (length cells.old ≡ 8192) × ((table < 4) × (row < length (rows_of (book_model book.now) table))) }
-    requires drawn { DrawnFor (P.Policy.meaning policy.now) broker (book_model book.now) (place_of table row 0) cells.old numbers.old }
-    ensures { DrawnFor (P.Policy.meaning policy.now) broker (book_model book.now) (place_of table (row + 1) 0) cells.new numbers.new }
-{
-    let Some(values) = book.row(table, row) else {
-        return;
-    };
-    for column in 0..values.len() {
-        let mark = policy.mark(broker, table, values, column);
-        let at = Position { table, row, column };
-        let masked = mask(cells, numbers, book, at, mark);
-        put(cells, at, masked);
+}
+
+impl<P: Policy> Scene<'_, P> {
+    /// Draws a row, all cells before which are drawn.
+    fn draw_row(&self, cells: &mut [Masked; 8192], numbers: &mut [u16; 16], slot: Slot)
+        requires there { slot.row < length (rows_of (book_model self.now.book.now) slot.table) }
+        requires drawn { DrawnFor (P.Policy.meaning self.now.policy.now) self.now.broker (book_model self.now.book.now) (place_of slot.table slot.row 0) cells.old numbers.old }
+        ensures { DrawnFor (P.Policy.meaning self.now.policy.now) self.now.broker (book_model self.now.book.now) (place_of slot.table (slot.row + 1) 0) cells.new numbers.new }
+    {
+        let Some(values) = self.book.row(slot.table, slot.row) else {
+            return;
+        };
+        for column in 0..values.len() {
+            let mark = self.policy.mark(self.broker, slot.table, values, column);
+            let at = Position { slot, column };
+            let masked = mask(cells, numbers, self.book, at, mark);
+            put(cells, numbers, at, masked);
+        }
+    }
+
+    /// Draws a table, all cells before which are drawn.
+    fn draw_table(&self, cells: &mut [Masked; 8192], numbers: &mut [u16; 16], table: usize)
+        requires there { table < 4 }
+        requires drawn { DrawnFor (P.Policy.meaning self.now.policy.now) self.now.broker (book_model self.now.book.now) (place_of table 0 0) cells.old numbers.old }
+        ensures { DrawnFor (P.Policy.meaning self.now.policy.now) self.now.broker (book_model self.now.book.now) (place_of (table + 1) 0 0) cells.new numbers.new }
+    {
+        for row in 0..self.book.row_count(table) {
+            self.draw_row(cells, numbers, Slot { table, row });
+        }
+    }
+
+    /// Draws all tables.
+    fn draw(&self, cells: &mut [Masked; 8192])
+        ensures whole { length cells.new ≡ 8192 }
+        ensures drawn { AllDrawn (marks (P.Policy.meaning self.now.policy.now) self.now.broker (book_model self.now.book.now)) (book_model self.now.book.now) cells.new }
+    {
+        let mut numbers = [0; 16];
+        for table in 0..4 {
+            self.draw_table(cells, &mut numbers, table);
+        }
     }
 }
 
-/// Draws a table, all cells before which are drawn; `numbers` counts the linked cells of each domain.
-fn draw_table<P: Policy>(
-    cells: &mut [Masked],
-    numbers: &mut [u16; 16],
-    book: &Book<'_>,
-    policy: &P,
-    broker: u16,
-    table: usize,
-)
-    requires fits { (length cells.old ≡ 8192) × (table < 4) }
-    requires drawn { DrawnFor (P.Policy.meaning policy.now) broker (book_model book.now) (place_of table 0 0) cells.old numbers.old }
-    ensures { DrawnFor (P.Policy.meaning policy.now) broker (book_model book.now) (place_of (table + 1) 0 0) cells.new numbers.new }
+/// The sizes of a book's tables.
+fn sizes(book: &Book<'_>) -> [Size; 4]
+    ensures four { length result ≡ 4 }
+    ensures rows { (t : ℕ) → t < 4 → (size_at result t).rows ≡ length (rows_of (book_model book.now) t) }
+    ensures columns { (t : ℕ) → t < 4 → (size_at result t).columns ≡ length (columns_of (book_model book.now) t) }
 {
-    for row in 0..book.row_count(table) {
-        draw_row(cells, numbers, book, policy, broker, table, row);
-    }
-}
-
-/// Draws all tables.
-fn draw_tables<P: Policy>(cells: &mut [Masked], book: &Book<'_>, policy: &P, broker: u16)
-    requires { length cells.old ≡ 8192 }
-    ensures { AllDrawn (marks (P.Policy.meaning policy.now) broker (book_model book.now)) (book_model book.now) cells.new }
-{
-    let mut numbers = [0; 16];
-    for table in 0..4 {
-        draw_table(cells, &mut numbers, book, policy, broker, table);
-    }
-}
-
-/// How many rows each table has.
-fn row_counts(book: &Book<'_>) -> [usize; 4]
-    ensures { result ≡ tabled (λ t. length (rows_of (book_model book.now) t)) 4 }
-{
-    [
-        book.row_count(0),
-        book.row_count(1),
-        book.row_count(2),
-        book.row_count(3),
-    ]
-}
-
-/// How many columns each table has.
-fn widths(book: &Book<'_>) -> [usize; 4]
-    ensures { result ≡ tabled (λ t. length (columns_of (book_model book.now) t)) 4 }
-{
-    [
-        book.columns(0).len(),
-        book.columns(1).len(),
-        book.columns(2).len(),
-        book.columns(3).len(),
-    ]
+    array::from_fn(|table| Size {
+        rows: book.row_count(table),
+        columns: book.columns(table).len(),
+    })
 }
 
 impl View {
-    /// Takes over how many rows and columns the tables of a book have, where the cells are drawn.
+    /// Takes over the sizes of a book's tables, where the cells are drawn.
     fn measure(&mut self, book: &Book<'_>)
         ensures seen { (mark : Place → Mark) → AllDrawn mark (book_model book.now) self.old.cells → view_tables self.new ≡ drawn mark (book_model book.now) }
         ensures wide { (t : ℕ) → width_in self.new t ≡ length (columns_of (book_model book.now) t) }
     {
-        self.counts = row_counts(book);
-        self.widths = widths(book);
+        self.sizes = sizes(book);
     }
 
     /// Draws what a broker sees of a book under a policy, which is asked once for each cell.
@@ -116,7 +105,12 @@ impl View {
         ensures seen { view_tables self.new ≡ view (P.Policy.meaning policy.now) broker (book_model book.now) }
         ensures wide { (t : ℕ) → width_in self.new t ≡ length (columns_of (book_model book.now) t) }
     {
-        draw_tables(&mut self.cells, book, policy, broker);
+        let scene = Scene {
+            book,
+            policy,
+            broker,
+        };
+        scene.draw(&mut self.cells);
         self.measure(book);
     }
 }

@@ -1,8 +1,9 @@
-ghost use Rattle.std.specs.Prelude.{◌≡◌, ◌<◌, ◌≤◌, length};
+ghost use Rattle.std.specs.Prelude.{◌≡◌, ◌≤◌, length};
+ghost use Rattle.semantics.specs.Books.{column_at, columns_of};
 ghost use Rattle.semantics.specs.Views.{held};
 ghost use Rattle.cells.specs.Cells.{cell_value};
 ghost use Rattle.book.specs.Books.{book_model};
-ghost use Rattle.view.specs.Drawing.{Found, InColumn, InTable, InDomain, place_at, rows_before};
+ghost use Rattle.view.specs.Positions.{place_at};
 
 use crate::masked::Masked;
 use crate::position::Position;
@@ -13,93 +14,83 @@ use cells::Cell;
 pub(crate) fn cell_at(book: &Book<'_>, at: Position) -> Cell
     ensures { cell_value result ≡ held (book_model book.now) (place_at at) }
 {
-    let Some(row) = book.row(at.table, at.row) else {
-        return Cell::Number(0);
-    };
-    if at.column < row.len() {
-        row[at.column]
-    } else {
-        Cell::Number(0)
-    }
+    let row = book.row(at.slot.table, at.slot.row).unwrap_or(&[]);
+    row.get(at.column).copied().unwrap_or(Cell::Number(0))
 }
 
-/// The index of a pseudonym drawn for this value in the first rows of a column.
-fn find_in_column(
-    cells: &[Masked],
-    book: &Book<'_>,
-    table: usize,
-    column: usize,
-    rows: usize,
-    value: &Cell,
-) -> Option<u16>
-    requires { (length cells.now ≡ 8192) × ((table < 4) × ((column < 8) × (rows ≤ 256))) }
-    ensures { Found cells.now (book_model book.now) (cell_value value.now) (InColumn table column rows) result }
-{
-    for row in 0..rows {
-        let masked = cells[32 * row + 8 * table + column];
-        if let Masked::Pseudonym { domain: _, index } = masked {
-            let cell = cell_at(book, Position { table, row, column });
-            if cell.same(value) {
-                return Some(index);
-            }
-        }
-    }
-    None
-}
-
-/// How many cells of a column stand before a position, in a table that is not a later one.
-fn rows_before(book: &Book<'_>, at: Position, table: usize, column: usize) -> usize
-    requires { at.row < 256 }
-    ensures { result ≡ rows_before (book_model book.now) (place_at at) table column }
-{
-    if table < at.table {
-        book.row_count(table)
-    } else if column < at.column {
-        at.row + 1
-    } else {
-        at.row
-    }
-}
-
-/// The index of a pseudonym drawn for this value before a position, in one table's columns of a domain.
-fn find_in_table(
-    cells: &[Masked],
-    book: &Book<'_>,
-    at: Position,
-    domain: u8,
-    table: usize,
-    value: &Cell,
-) -> Option<u16>
-    requires { (length cells.now ≡ 8192) × ((at.table < 4) × ((at.row < 256) × (table ≤ at.table))) }
-    ensures { Found cells.now (book_model book.now) (cell_value value.now) (InTable (book_model book.now) (place_at at) domain table) result }
+/// The domain of a column of a book, 0 where there is none.
+pub(crate) fn domain_of(book: &Book<'_>, table: usize, column: usize) -> u8
+    ensures { result ≡ (column_at (columns_of (book_model book.now) table) column).domain }
 {
     let columns = book.columns(table);
-    for column in 0..columns.len() {
-        if columns[column].domain == domain {
-            let rows = rows_before(book, at, table, column);
-            if let Some(index) = find_in_column(cells, book, table, column, rows, value) {
-                return Some(index);
-            }
-        }
-    }
-    None
+    columns.get(column).map_or(0, |column| column.domain)
 }
 
-/// The index of a pseudonym drawn for this value before a position, in the columns of a domain.
-pub(crate) fn find(
-    cells: &[Masked],
-    book: &Book<'_>,
-    at: Position,
-    domain: u8,
-    value: &Cell,
-) -> Option<u16>
-    requires { (length cells.now ≡ 8192) × ((at.table < 4) × (at.row < 256)) }
-    ensures { Found cells.now (book_model book.now) (cell_value value.now) (InDomain (book_model book.now) (place_at at) domain) result }
-{
-    for table in 0..at.table + 1 {
-        if let Some(index) = find_in_table(cells, book, at, domain, table, value) {
-            return Some(index);
+/// A search for a value among the cells of a domain that are drawn before a position.
+#[derive(Clone, Copy)]
+pub(crate) struct Search<'d> {
+    pub(crate) cells: &'d [Masked; 8192],
+    pub(crate) book: &'d Book<'d>,
+    pub(crate) at: Position,
+    pub(crate) domain: u8,
+    pub(crate) value: Cell,
+    ghost whole: { length cells.now ≡ 8192 },
+    ghost some: { 1 ≤ domain },
+}
+
+impl Search<'_> {
+    ghost use Rattle.view.specs.Drawing.{rows_before};
+    ghost use Rattle.view.specs.Searching.{Finds, InColumn, InTable, OneCell, Searched};
+
+    /// The index of the pseudonym of a cell, where it is drawn for the value.
+    #[tactic(auto, using(cells::proofs::Same::equal_cells))]
+    fn index_at(&self, table: usize, row: usize, column: usize) -> Option<u16>
+        ensures { Finds self.now (OneCell table row column) result }
+    {
+        let at = Position::new(table, row, column)?;
+        let masked = self.cells[at.index()];
+        match masked {
+            Masked::Pseudonym { domain: _, index } if cell_at(self.book, at) == self.value => {
+                Some(index)
+            }
+            _ => None,
         }
     }
-    None
+
+    /// How many cells of a column stand before the position, in a table that is not a later one.
+    fn rows_before(&self, table: usize, column: usize) -> usize
+        ensures { result ≡ rows_before (book_model self.now.book.now) (place_at self.now.at) table column }
+    {
+        if table < self.at.slot.table {
+            self.book.row_count(table)
+        } else if column < self.at.column {
+            self.at.slot.row + 1
+        } else {
+            self.at.slot.row
+        }
+    }
+
+    /// The index of a pseudonym drawn for the value in a column, if it is of the domain.
+    fn in_column(&self, table: usize, column: usize) -> Option<u16>
+        ensures { Finds self.now (InColumn self.now table column) result }
+    {
+        if domain_of(self.book, table, column) != self.domain {
+            return None;
+        }
+        (0..self.rows_before(table, column)).find_map(|row| self.index_at(table, row, column))
+    }
+
+    /// The index of a pseudonym drawn for the value in the columns of the domain, in one table.
+    fn in_table(&self, table: usize) -> Option<u16>
+        ensures { Finds self.now (InTable self.now table) result }
+    {
+        (0..self.book.columns(table).len()).find_map(|column| self.in_column(table, column))
+    }
+
+    /// The index of a pseudonym drawn for the value in the columns of the domain.
+    pub(crate) fn index(&self) -> Option<u16>
+        ensures { Finds self.now (Searched self.now) result }
+    {
+        (0..=self.at.slot.table).find_map(|table| self.in_table(table))
+    }
 }

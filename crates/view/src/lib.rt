@@ -8,6 +8,7 @@ mod mask;
 mod masked;
 mod position;
 mod read;
+mod size;
 #[cfg(test)]
 mod tests;
 mod view;

@@ -1,9 +1,10 @@
-ghost use Rattle.std.specs.Prelude.{◌≡◌, ◌<◌, ◌≤◌, [], ◌∷◌, map, length, take, drop, slice_index_or};
-ghost use Rattle.book.specs.Layout.{row_start};
+ghost use Rattle.std.specs.Prelude.{◌≡◌, ◌<◌, [], ◌∷◌, map, length, slice_index_or};
 ghost use Rattle.view.specs.Views.{masked_of, view_tables, width_in, RowSeen};
 
 use crate::masked::Masked;
+use crate::size::Size;
 use crate::view::View;
+use book::Slot;
 use cells::Cell;
 
 impl View {
@@ -11,35 +12,29 @@ impl View {
     pub fn new() -> View
         ensures { view_tables result ≡ [] ∷ [] ∷ [] ∷ [] ∷ [] }
     {
+        let nothing = Size {
+            rows: 0,
+            columns: 0,
+        };
         View {
             cells: [Masked::Value(Cell::Number(0)); 8192],
-            counts: [0; 4],
-            widths: [0; 4],
+            sizes: [nothing; 4],
         }
     }
 
     /// How many rows a table has, none where there is no such table.
+    #[tactic(auto, using(crate::proofs::Memory::counts_are))]
     pub fn row_count(&self, table: usize) -> usize
         ensures { result ≡ length (slice_index_or (view_tables self.now) table []) }
     {
-        if table < 4 { self.counts[table] } else { 0 }
+        self.sizes.get(table).map_or(0, |size| size.rows)
     }
 
     /// How many columns a table has, none where there is no such table.
     pub fn width(&self, table: usize) -> usize
         ensures { result ≡ width_in self.now table }
     {
-        if table < 4 { self.widths[table] } else { 0 }
-    }
-
-    /// The first `width` cells of a row.
-    fn part(&self, table: usize, row: usize, width: usize) -> &[Masked]
-        requires { (table < 4) × ((row < 256) × (width ≤ 8)) }
-        ensures { result.now ≡ take width (drop (row_start table row) self.now.cells) }
-    {
-        let start = 32 * row + 8 * table;
-        let end = start + width;
-        &self.cells[start..end]
+        self.sizes.get(table).map_or(0, |size| size.columns)
     }
 
     /// The cells of a row that there is.
@@ -47,7 +42,8 @@ impl View {
         requires { row < length (slice_index_or (view_tables self.now) table []) }
         ensures { map masked_of result.now ≡ slice_index_or (slice_index_or (view_tables self.now) table []) row [] }
     {
-        self.part(table, row, self.widths[table])
+        let slot = Slot { table, row };
+        &slot.cells(&self.cells)[..self.sizes[table].columns]
     }
 
     /// The cells of a row, where there is one of this number.

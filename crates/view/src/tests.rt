@@ -53,26 +53,21 @@ fn fill(book: &mut Book<'_>) -> Result<(), Refusal> {
     store(book, 2, 22, 30, 12)
 }
 
-/// A cell as three numbers: 0 and a number that is shown, 1 and the row and column of a variable, 2 and
-/// the domain and index of a pseudonym; 9 where there is no such cell.
-fn seen(view: &View, table: usize, row: usize, column: usize) -> (u8, u32, u32) {
-    let Some(cells) = view.row(table, row) else {
-        return (9, 0, 0);
-    };
-    if column >= cells.len() {
-        return (9, 0, 0);
-    }
-    let masked = cells[column];
-    match masked {
-        Masked::Value(Cell::Number(n)) => (0, n, 0),
-        Masked::Value(Cell::Prefix(_)) => (0, 0, 1),
-        Masked::Variable {
-            table: _,
-            row,
-            column,
-        } => (1, u32::from(row), u32::from(column)),
-        Masked::Pseudonym { domain, index } => (2, u32::from(domain), u32::from(index)),
-    }
+/// What the broker sees of a cell, where the view has one.
+fn seen(view: &View, table: usize, row: usize, column: usize) -> Option<Masked> {
+    view.row(table, row)?.get(column).copied()
+}
+
+fn number(n: u32) -> Option<Masked> {
+    Some(Masked::Value(Cell::Number(n)))
+}
+
+fn variable(table: u8, row: u8, column: u8) -> Option<Masked> {
+    Some(Masked::Variable { table, row, column })
+}
+
+fn pseudonym(domain: u8, index: u16) -> Option<Masked> {
+    Some(Masked::Pseudonym { domain, index })
 }
 
 #[test]
@@ -83,17 +78,17 @@ fn linked_cells_of_three_domains(rt: HostRuntime) -> Result<(), Fail> {
     let mut view = View::new();
     view.draw(&book, &LINKED, 7);
     // Domain 1 has 10, 11, 10, 11, 12 in order, domain 2 has 20, 20, 21, 21, 22, domain 3 has 30, 30.
-    assert_eq!(rt; seen(&view, 0, 0, 0), (2, 1, 0));
-    assert_eq!(rt; seen(&view, 0, 1, 0), (2, 1, 1));
-    assert_eq!(rt; seen(&view, 0, 2, 0), (2, 1, 0));
-    assert_eq!(rt; seen(&view, 2, 0, 2), (2, 1, 1));
-    assert_eq!(rt; seen(&view, 2, 1, 2), (2, 1, 4));
-    assert_eq!(rt; seen(&view, 0, 0, 1), (2, 2, 0));
-    assert_eq!(rt; seen(&view, 0, 2, 1), (2, 2, 2));
-    assert_eq!(rt; seen(&view, 2, 0, 0), (2, 2, 2));
-    assert_eq!(rt; seen(&view, 2, 1, 0), (2, 2, 4));
-    assert_eq!(rt; seen(&view, 2, 1, 1), (2, 3, 0));
-    assert_eq!(rt; seen(&view, 0, 1, 2), (1, 1, 2));
+    assert_eq!(rt; seen(&view, 0, 0, 0), pseudonym(1, 0));
+    assert_eq!(rt; seen(&view, 0, 1, 0), pseudonym(1, 1));
+    assert_eq!(rt; seen(&view, 0, 2, 0), pseudonym(1, 0));
+    assert_eq!(rt; seen(&view, 2, 0, 2), pseudonym(1, 1));
+    assert_eq!(rt; seen(&view, 2, 1, 2), pseudonym(1, 4));
+    assert_eq!(rt; seen(&view, 0, 0, 1), pseudonym(2, 0));
+    assert_eq!(rt; seen(&view, 0, 2, 1), pseudonym(2, 2));
+    assert_eq!(rt; seen(&view, 2, 0, 0), pseudonym(2, 2));
+    assert_eq!(rt; seen(&view, 2, 1, 0), pseudonym(2, 4));
+    assert_eq!(rt; seen(&view, 2, 1, 1), pseudonym(3, 0));
+    assert_eq!(rt; seen(&view, 0, 1, 2), variable(0, 1, 2));
     Ok(())
 }
 
@@ -104,12 +99,12 @@ fn hidden_and_shown_cells(rt: HostRuntime) -> Result<(), Fail> {
     fill(&mut book)?;
     let mut view = View::new();
     view.draw(&book, &HIDDEN, 7);
-    assert_eq!(rt; seen(&view, 2, 1, 0), (1, 1, 0));
-    assert_eq!(rt; seen(&view, 0, 2, 1), (1, 2, 1));
+    assert_eq!(rt; seen(&view, 2, 1, 0), variable(2, 1, 0));
+    assert_eq!(rt; seen(&view, 0, 2, 1), variable(0, 2, 1));
     view.draw(&book, &SHOWN, 7);
-    assert_eq!(rt; seen(&view, 2, 1, 0), (0, 22, 0));
-    assert_eq!(rt; seen(&view, 0, 2, 1), (0, 21, 0));
-    assert_eq!(rt; seen(&view, 0, 3, 0), (9, 0, 0));
+    assert_eq!(rt; seen(&view, 2, 1, 0), number(22));
+    assert_eq!(rt; seen(&view, 0, 2, 1), number(21));
+    assert_eq!(rt; seen(&view, 0, 3, 0), None);
     Ok(())
 }
 
@@ -124,7 +119,7 @@ fn tables_without_rows_or_columns(rt: HostRuntime) -> Result<(), Fail> {
     assert_eq!(rt; view.row_count(2), 0);
     assert_eq!(rt; view.width(1), 0);
     assert_eq!(rt; view.width(4), 0);
-    assert_eq!(rt; seen(&view, 2, 0, 0), (9, 0, 0));
+    assert_eq!(rt; seen(&view, 2, 0, 0), None);
     Ok(())
 }
 

@@ -9,5 +9,5 @@ returns g c =
     let a = c.args in
     let m = book_model a.book.now in
     let mark = marks (g.P.Policy.meaning a.policy.now) a.broker m in
-    let all : AllDrawn mark m c.draw_tables.new.cells = c.draw_tables.ensures in
+    let all : AllDrawn mark m c.draw.new.cells = c.draw.ensures.drawn in
     record { seen = c.measure.ensures.seen mark all; wide = search rules }

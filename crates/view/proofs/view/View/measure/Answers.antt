@@ -1,18 +1,20 @@
 use Rattle.book.specs.Books.{book_model}
-use Rattle.view.proofs.Drawing.{view-is, widths_at, widths_kept, counts-kept}
+use Rattle.view.proofs.Drawing.{AreSizes, view-is, widths-are, sizes-low}
 use Rattle.view.proofs.view.View.measure.Goals as goal
 
 pub invariant_of-self : goal.invariant_of-self
 invariant_of-self c =
     let b = c.args.book.now in
-    let w = widths_kept b c.widths-self.result c.widths-self.ensures in
-    let n = counts-kept b c.row_counts-self.result c.row_counts-self.ensures in
-    record { whole = c.args.self.now.whole; counted = n.0; measured = w.0; low = n.1; narrow = w.1 }
+    let s = c.sizes-self.ensures in
+    let are : AreSizes (book_model b) c.sizes-self.result = (s.four, λ t a. (s.rows t a, s.columns t a)) in
+    record { whole = c.args.self.now.whole; four = s.four; low = sizes-low b c.sizes-self.result are }
 
 pub returns : goal.returns
 returns c =
     let b = c.args.book.now in
+    let s = c.sizes-self.ensures in
+    let are : AreSizes (book_model b) c.sizes-self.result = (s.four, λ t a. (s.rows t a, s.columns t a)) in
     record {
-      seen = λ mark all. view-is mark (book_model b) c.args.self.now.cells c.widths-self.result c.row_counts-self.result all c.widths-self.ensures c.row_counts-self.ensures;
-      wide = widths_at b c.widths-self.result c.widths-self.ensures;
+      seen = λ mark all. view-is (book_model b) c.sizes-self.result mark c.args.self.now.cells all are;
+      wide = widths-are b c.sizes-self.result are;
     }
