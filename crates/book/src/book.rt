@@ -7,6 +7,7 @@ ghost use Rattle.book.specs.Layout.{Clean, model_in};
 use crate::columns::Columns;
 use cells::Cell;
 
+// Apart from the columns, which a draft has alone and no method of the rows changes.
 /// The rows of four tables in lent memory: how many each table has, and the cells.
 #[derive(Drop)]
 pub(crate) struct Rows<'a> {
@@ -24,5 +25,6 @@ pub struct Book<'a> {
     ghost counted: { length rows.counts ≡ 4 },
     ghost domains: { agreed (columns_in tables) ≡ true },
     ghost fitting: { lawful (model_in (columns_in tables) rows.counts rows.cells.now) ≡ true },
+    // Also a clause of each call that writes, since a caller reads the clauses.
     ghost clean: { Clean (columns_in tables) rows.counts rows.cells.now },
 }

@@ -100,6 +100,7 @@ impl Draft {
         add_column(&mut self.tables, table, column);
     }
 
+    // The kind is a number, since a number that no kind has is one of the refusals.
     /// Adds a column of this kind and domain at the end of a table.
     pub fn declare(&mut self, table: usize, kind: u8, domain: u8) -> Result<(), Refusal>
         ensures step { Steps result (declared (columns_in self.old.tables) table kind domain) (columns_in self.old.tables) (columns_in self.new.tables) }

@@ -45,6 +45,7 @@ impl Book<'_> {
     pub fn row(&self, table: usize, row: usize) -> Option<&[Cell]>
         ensures { RowAt (book_model self.now) table row result }
     {
+        // By an early return: `then` says no more in its line, and wants a proof by cases.
         if row >= self.row_count(table) {
             return None;
         }

@@ -21,6 +21,7 @@ fn holds(test: Test, row: &[Cell]) -> bool
     }
 }
 
+// Broker, table, row and column go one by one: each clause takes them apart, as a meaning does.
 /// Whether the rule is about this broker, table and column, and its test holds for the row.
 fn applies(rule: Rule, broker: u16, table: usize, row: &[Cell], column: usize) -> bool
     ensures { result ≡ applies broker table (map cell_value row.now) column rule }
