@@ -1,12 +1,12 @@
 -- The questions of a store, and the book after it.
-use Rattle.std.proofs.Common.{◌≡◌, ℕ, ◌+◌, ◌<◌, ◌≤◌, Bool, true, false, cond, not, ltb, Option, MatchOption, refl, ◌⊎◌, List, [], ◌∷◌, ◌++◌, map, length, get_or, set, Some, sym, subst, ap, ◌∙◌, inl, inr, arith}
+use Rattle.std.proofs.Common.{◌≡◌, ℕ, ◌+◌, ◌<◌, ◌≤◌, Bool, true, false, cond, not, ltb, Option, MatchOption, refl, List, [], ◌∷◌, ◌++◌, map, length, get_or, set, Some, sym, subst, ap, ◌∙◌, inl, inr, arith}
 use lib.Seq.{paste}
 use Rattle.std.specs.List.{position, position_from, zip}
 use Rattle.std.proofs.lemmas.Iterator.Adapters.{position_from-zero}
 use Rattle.std.proofs.lemmas.List.{length-map, get_or-map, get_or-set_same, get_or-set_other}
 use Rattle.std.proofs.lemmas.Bool.Decides.{nat_tests}
 use Rattle.semantics.specs.declared.kind.Column.{Column}
-use Rattle.semantics.specs.declared.refusal.Refusal.TheVariants.{WrongWidth, WrongKind, TableFull}
+use Rattle.semantics.specs.declared.refusal.Refusal.TheVariants.{WrongKind, TableFull}
 use Rattle.semantics.specs.Books.{Model, columns_of, rows_of, with_rows, limit_of, fitting, may_store}
 use Rattle.semantics.specs.Kinds.{same_kind}
 use Rattle.semantics.specs.Outcomes.{Outcome, done, refuse, question, and_then}
@@ -41,12 +41,8 @@ says_first columns row o e =
     subst (λ o. Says (length columns) o (fitting 0 columns (map cell_value row))) (sym (e ∙ position_from-zero unfit (zip columns row))) (says_from 0 (length columns) columns row (omega arith))
 
 -- the questions of the model
-module _ (m : Model) (t : ℕ) (row : List Value) (in' : t < 4) where
-  store_width : ((length row ≡ length (columns_of m t)) → ⊥) ⊎ (length row ≡ 0) → may_store m t row ≡ refuse WrongWidth
-  store_width e = grind (arith, nat_tests)
-
-  store_on : length row ≡ length (columns_of m t) → 0 < length row → may_store m t row ≡ and_then (fitting 0 (columns_of m t) row) (λ _. question (ltb (length (rows_of m t)) m.limit) TableFull (done tt))
-  store_on e p = grind (arith, nat_tests)
+store_on : (m : Model) (t : ℕ) (row : List Value) → t < 4 → length row ≡ length (columns_of m t) → 0 < length row → may_store m t row ≡ and_then (fitting 0 (columns_of m t) row) (λ _. question (ltb (length (rows_of m t)) m.limit) TableFull (done tt))
+store_on m t row in' e p = grind (arith, nat_tests)
 
 -- the same, of what the code holds
 pub at_on : (S : List (List Column)) (ns : List ℕ) (cells : List Cell) (t : ℕ) (row : List Cell) (columns : List Column) → t < 4 → columns ≡ get_or S t [] → length row ≡ length columns → 0 < length row

@@ -60,7 +60,6 @@ impl Draft {
     }
 
     /// Whether every column of this domain, in any table, has this kind.
-    #[tactic(auto, using(semantics::proofs::Every::every_map))]
     fn agree(&self, kind: Kind, domain: u8) -> bool
         ensures { result ≡ agree (columns_in self.now.tables) kind domain }
     {
