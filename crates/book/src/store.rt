@@ -35,20 +35,16 @@ fn fitting(columns: &[Column], row: &[Cell]) -> Result<(), Refusal>
 }
 
 impl Rows<'_> {
-    /// Writes a row behind the last of a table that has room.
-    fn push(&mut self, table: usize, row: &[Cell])
-        requires { (table < 4) × ((slice_index self.old.counts table < limit_of (length self.old.cells.now)) × (length row.now ≤ 8)) }
-        ensures counts { self.new.counts ≡ slice_set self.old.counts table (slice_index self.old.counts table + 1) }
-        ensures cells { self.new.cells.now ≡ paste self.old.cells.now (row_start table (slice_index self.old.counts table)) row.now (length row.now) }
+    /// Writes a row in the slot behind the last of a table that has room.
+    fn push(&mut self, at: Slot, row: &[Cell])
+        requires { (at.row ≡ slice_index self.old.counts at.table) × ((at.row < limit_of (length self.old.cells.now)) × (length row.now ≤ 8)) }
+        ensures counts { self.new.counts ≡ slice_set self.old.counts at.table (at.row + 1) }
+        ensures cells { self.new.cells.now ≡ paste self.old.cells.now (row_start at.table at.row) row.now (length row.now) }
     {
-        let slot = Slot {
-            table,
-            row: self.counts[table],
-        };
-        let start = slot.start();
+        let start = at.start();
         let end = start + row.len();
         self.cells[start..end].copy_from_slice(row);
-        self.counts[table] += 1;
+        self.counts[at.table] = at.row + 1;
     }
 }
 
@@ -73,7 +69,11 @@ impl Book<'_> {
         requires { may_store (book_model self.old) table (map cell_value row.now) ≡ done tt }
         ensures { stored (book_model self.old) table (map cell_value row.now) ≡ done (book_model self.new) }
     {
-        self.rows.push(table, row);
+        let slot = Slot {
+            table,
+            row: self.rows.counts[table],
+        };
+        self.rows.push(slot, row);
     }
 
     /// Appends a row to a table.
