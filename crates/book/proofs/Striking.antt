@@ -30,8 +30,8 @@ pub record Moved (t row i : ℕ) (old new : List Cell) : Type 0 where
   pub move : (r c : ℕ) → c < 8 → row ≤ r → r < i → cell_at new t r c ≡ cell_at old t (r + 1) c
 
 -- the 8 cells of the next row are copied down
-module _ (t row i at : ℕ) (old new after : List Cell) (in' : t < 4) (from : row ≤ i) (start : at ≡ row_start t i) (size' : length after ≡ length new)
-    (here : (k : ℕ) (d : Cell) → at ≤ k → k < at + 8 → get_or after k d ≡ get_or new (at + 32 + (k - at)) d)
+module _ (t row i at below' : ℕ) (old new after : List Cell) (in' : t < 4) (from : row ≤ i) (start : at ≡ row_start t i) (start' : below' ≡ row_start t (i + 1)) (size' : length after ≡ length new)
+    (here : (k : ℕ) (d : Cell) → at ≤ k → k < at + 8 → get_or after k d ≡ get_or new (below' + (k - at)) d)
     (below : (k : ℕ) (d : Cell) → k < at → get_or after k d ≡ get_or new k d)
     (above : (k : ℕ) (d : Cell) → at + 8 ≤ k → get_or after k d ≡ get_or new k d)
     (m : Moved t row i old new) where

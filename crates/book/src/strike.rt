@@ -21,7 +21,11 @@ impl Rows<'_> {
         // By its number: no method of the library moves parts that lie apart.
         for row in row..last {
             let start = Slot { table, row }.start();
-            let next = start + 32;
+            let next = Slot {
+                table,
+                row: row + 1,
+            }
+            .start();
             self.cells.copy_within(next..next + 8, start);
         }
         let start = Slot { table, row: last }.start();

@@ -16,7 +16,7 @@ pub loop-row-preserved : goal.loop-row-preserved
 loop-row-preserved c =
     let p = c.copy_within.ensures.by_index in (
       c.loop-row.invariant.0,
-      moved_more c.args.at.table c.args.at.row c.loop-row.row c.start-start.result c.args.self.now.cells.now c.loop-row.self.cells.now c.copy_within.new.self (omega arith) c.loop-row.auto.row c.start-start.ensures c.copy_within.ensures.len
+      moved_more c.args.at.table c.args.at.row c.loop-row.row c.start-start.result c.start-next.result c.args.self.now.cells.now c.loop-row.self.cells.now c.copy_within.new.self (omega arith) c.loop-row.auto.row c.start-start.ensures c.start-next.ensures c.copy_within.ensures.len
           (λ k d a b. p.0 k d a (omega arith)) (λ k d a. p.1 k d a) (λ k d a. p.2 k d (omega arith)) c.loop-row.invariant.1,
     )
 
