@@ -1,4 +1,4 @@
-ghost use Rattle.std.specs.Prelude.{◌≡◌, ℕ, ◌<◌, length, slice_set};
+ghost use Rattle.std.specs.Prelude.{◌≡◌, ◌<◌, length, slice_set};
 ghost use Rattle.semantics.specs.Books.{limit_of, may_amend, amended};
 ghost use Rattle.semantics.specs.Outcomes.{Answers, Steps, Kept, done};
 ghost use Rattle.cells.specs.Cells.{cell_value};

@@ -1,4 +1,4 @@
-ghost use Rattle.std.specs.Prelude.{◌≡◌, ℕ, ◌<◌, List, [], ◌∷◌, ◌++◌, length, IfOk, slice_index_or};
+ghost use Rattle.std.specs.Prelude.{◌≡◌, ◌<◌, [], length, IfOk, slice_index_or};
 ghost use Rattle.bounded.specs.Bounded.{items};
 ghost use Rattle.semantics.specs.Drafts.{blank, suits, agree, admits, added, may_declare, declared};
 ghost use Rattle.semantics.specs.Lists.{every};

@@ -1,8 +1,7 @@
-ghost use Rattle.std.specs.Prelude.{◌≡◌, ℕ, ◌<◌, ◌≤◌, [], map, length, take, drop, slice_index_or};
-ghost use Rattle.semantics.specs.Books.{columns_of, rows_of, limit_of};
+ghost use Rattle.std.specs.Prelude.{◌≡◌, ◌<◌, [], map, length, slice_index_or};
+ghost use Rattle.semantics.specs.Books.{columns_of, rows_of};
 ghost use Rattle.cells.specs.Cells.{cell_value};
 ghost use Rattle.book.specs.Books.{book_model, RowAt};
-ghost use Rattle.book.specs.Layout.{row_start};
 
 use crate::book::Book;
 use crate::declare::columns_of;

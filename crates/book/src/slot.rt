@@ -1,9 +1,9 @@
-ghost use Rattle.std.specs.Prelude.{◌≡◌, ◌+◌, ◌<◌, ◌≤◌, ◌⊎◌, take, drop};
+ghost use Rattle.std.specs.Prelude.{◌≡◌, ◌<◌, take, drop};
 ghost use Rattle.book.specs.Layout.{row_start};
 
 /// The part of a memory that a row of a table has: each row number has 32 cells, 8 for each of
 /// four tables, and no table has more than 256 rows.
-#[derive(Clone, Copy)]
+#[derive(Clone, Copy, PartialEq, Eq, Debug)]
 pub struct Slot {
     pub table: usize,
     pub row: usize,

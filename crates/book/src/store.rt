@@ -1,4 +1,4 @@
-ghost use Rattle.std.specs.Prelude.{◌≡◌, ℕ, ◌+◌, ◌<◌, ◌≤◌, map, length, not, position, slice_index, slice_set, zip};
+ghost use Rattle.std.specs.Prelude.{◌≡◌, ◌+◌, ◌<◌, ◌≤◌, map, length, not, position, slice_index, slice_set, zip};
 ghost use Rattle.std.proofs.Math.Seq.{paste};
 ghost use Rattle.semantics.specs.Books.{limit_of, fitting, may_store, stored};
 ghost use Rattle.semantics.specs.Kinds.{same_kind};
