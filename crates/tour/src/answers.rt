@@ -1,31 +1,22 @@
 //! Queries over the three tariffs, and their certain and possible rows.
 
-use crate::filters::filters;
-use crate::{show, store};
+use crate::show;
 use answer::answer;
-use anyhow::anyhow;
-use book::{Book, Draft};
+use anyhow::Context;
+use book::Book;
 use cells::Cell;
 use query::{Term, check};
 use semantics::{Operator, Refusal};
 use std::alloc::Global;
+use tariffs::{filters, store, tariff_columns};
 use view::{Masked, View};
 use writing::{Query, WriteError};
 
-/// The columns of the tariffs: a prefix in domain 1, the carrier's number and the price.
-fn columns() -> Result<Draft, Refusal> {
-    let mut draft = Draft::new();
-    draft.declare(0, 2, 1)?;
-    draft.declare(0, 1, 0)?;
-    draft.declare(0, 1, 0)?;
-    Ok(draft)
-}
-
 /// The three tariffs.
 fn fill(book: &mut Book<'_>) -> Result<(), Refusal> {
-    store(book, b"47", 1, 3100)?;
-    store(book, b"4711", 2, 2750)?;
-    store(book, b"48", 1, 2900)
+    store(book, 0, b"47", 1, 3100)?;
+    store(book, 0, b"4711", 2, 2750)?;
+    store(book, 0, b"48", 1, 2900)
 }
 
 /// Some columns of all tariffs.
@@ -70,81 +61,99 @@ fn reflexive(heap: Global) -> Result<Query, WriteError> {
     Ok(query)
 }
 
-/// Asks a query with so many cells of workspace, and prints the rows below the names of their
-/// columns, or the refusal.
-fn ask(
-    rt: &HostRuntime,
+/// Answers a query over a view, and gives the bytes of the reply.
+fn answered<'r>(
     book: &Book<'_>,
     view: &View,
-    cells: usize,
-    query: &Query,
-    names: &str,
-) -> anyhow::Result<()> {
-    let bytes = query.bytes();
-    let plan = match check(bytes, book) {
-        Ok(plan) => plan,
-        Err(refusal) => return show::refusal(rt, refusal),
-    };
-    let mut work = vec![in rt.alloc(); Masked::Value(Cell::Number(0)); cells]?;
-    let mut reply = [0; 4096];
-    match answer(view, &plan, bytes, work.as_mut_slice(), &mut reply) {
-        Ok(size) => show::reply(rt, names, reply.get(0..size).unwrap_or(&[])),
-        Err(refusal) => show::refusal(rt, refusal),
+    query: &[u8],
+    work: &mut [Masked],
+    reply: &'r mut [u8],
+) -> Result<&'r [u8], Refusal> {
+    let plan = check(query, book)?;
+    let size = answer(view, &plan, query, work, reply)?;
+    Ok(reply.get(..size).unwrap_or(&[]))
+}
+
+/// Who asks: a broker with the view that was drawn for it.
+#[derive(Clone, Copy)]
+struct Asking<'a, 'm> {
+    rt: &'a HostRuntime,
+    book: &'a Book<'m>,
+    view: &'a View,
+}
+
+impl Asking<'_, '_> {
+    /// Asks a query with so many cells of workspace, and prints the rows below the names of their
+    /// columns, or the refusal.
+    fn ask(&self, cells: usize, query: &Query, names: &str) -> anyhow::Result<()> {
+        let rt = self.rt;
+        let mut work = vec![in rt.alloc(); Masked::Value(Cell::Number(0)); cells]?;
+        let mut reply = [0; 4096];
+        match answered(
+            self.book,
+            self.view,
+            query.bytes(),
+            work.as_mut_slice(),
+            &mut reply,
+        ) {
+            Ok(bytes) => show::reply(rt, names, bytes),
+            Err(refusal) => {
+                println!(rt; "  {refusal}\n")?;
+                Ok(())
+            }
+        }
     }
-}
 
-/// What broker 7 asks, with 1,920 cells of workspace, which hold 8 rows of each relation; 719 hold 2.
-fn seven(rt: &HostRuntime, book: &Book<'_>, view: &View) -> anyhow::Result<()> {
-    let heap = rt.alloc();
-    let all = "    prefix   carrier     price";
-    let some = "   carrier     price";
-    println!(rt; "Broker 7: the carrier and the price of each tariff.")?;
-    ask(rt, book, view, 1920, &projected(heap, &[1, 2])?, some)?;
-    println!(rt; "Broker 7: the tariffs whose prefix covers 47110.")?;
-    ask(rt, book, view, 1920, &covering(heap)?, all)?;
-    println!(rt; "Broker 7: the tariffs with the longest prefix that covers 47110.")?;
-    ask(rt, book, view, 1920, &longest(heap)?, all)?;
-    println!(rt; "Broker 7: the tariffs whose prefix is equal to itself.")?;
-    ask(rt, book, view, 1920, &reflexive(heap)?, all)?;
-    println!(rt;
-        "Broker 7: the carrier and the price of each tariff, with a workspace for two rows."
-    )?;
-    ask(rt, book, view, 719, &projected(heap, &[1, 2])?, some)
-}
+    /// What broker 7 asks, with 1,920 cells of workspace, which hold 8 rows of each relation; 719 hold 2.
+    fn seven(&self) -> anyhow::Result<()> {
+        let rt = self.rt;
+        let heap = rt.alloc();
+        let all = "    prefix   carrier     price";
+        let some = "   carrier     price";
+        println!(rt; "Broker 7: the carrier and the price of each tariff.")?;
+        self.ask(1920, &projected(heap, &[1, 2])?, some)?;
+        println!(rt; "Broker 7: the tariffs whose prefix covers 47110.")?;
+        self.ask(1920, &covering(heap)?, all)?;
+        println!(rt; "Broker 7: the tariffs with the longest prefix that covers 47110.")?;
+        self.ask(1920, &longest(heap)?, all)?;
+        println!(rt; "Broker 7: the tariffs whose prefix is equal to itself.")?;
+        self.ask(1920, &reflexive(heap)?, all)?;
+        println!(rt;
+            "Broker 7: the carrier and the price of each tariff, with a workspace for two rows."
+        )?;
+        self.ask(719, &projected(heap, &[1, 2])?, some)
+    }
 
-/// What broker 8 asks, who may see nothing.
-fn eight(rt: &HostRuntime, book: &Book<'_>, view: &View) -> anyhow::Result<()> {
-    println!(rt; "Broker 8: the price of each tariff.")?;
-    ask(
-        rt,
-        book,
-        view,
-        1920,
-        &projected(rt.alloc(), &[2])?,
-        "     price",
-    )
+    /// What broker 8 asks, who may see nothing.
+    fn eight(&self) -> anyhow::Result<()> {
+        println!(self.rt; "Broker 8: the price of each tariff.")?;
+        self.ask(1920, &projected(self.rt.alloc(), &[2])?, "     price")
+    }
 }
 
 /// The queries, over a book that holds the three tariffs.
 pub(crate) fn tariffs(rt: &HostRuntime) -> anyhow::Result<()> {
-    let Ok(filters) = filters() else {
-        return Err(anyhow!("a rule was refused"));
-    };
-    let Ok(draft) = columns() else {
-        return Err(anyhow!("a column was refused"));
-    };
+    let filters = filters();
     let mut memory = [Cell::Number(0); 96];
-    let mut book = draft.open(&mut memory);
-    let Ok(()) = fill(&mut book) else {
-        return Err(anyhow!("a tariff was refused"));
-    };
+    let mut book = tariff_columns().open(&mut memory);
+    fill(&mut book).context("a tariff was refused")?;
     println!(rt;
         "Queries over the first three tariffs. A certain row is in the answer whatever the variables"
     )?;
     println!(rt; "stand for; a possible row may be.\n")?;
     let mut view = View::new();
     view.draw(&book, &filters, 7);
-    seven(rt, &book, &view)?;
+    let seven = Asking {
+        rt,
+        book: &book,
+        view: &view,
+    };
+    seven.seven()?;
     view.draw(&book, &filters, 8);
-    eight(rt, &book, &view)
+    let eight = Asking {
+        rt,
+        book: &book,
+        view: &view,
+    };
+    eight.eight()
 }

@@ -1,71 +1,72 @@
 //! Reading a reply: its records, and the cells of its rows.
 
-/// A record of a reply, and the bytes after it.
+ghost use Rattle.std.specs.Prelude.{◌<◌, length, IfSome};
+ghost use Rattle.std.specs.Iterator.{at_most};
+
+use cells::{Cell, Prefix};
+use view::Masked;
+
+/// A record of a reply.
 #[derive(Clone, Copy)]
-pub(crate) struct Record<'r> {
-    pub(crate) kind: u16,
-    pub(crate) body: &'r [u8],
-    pub(crate) rest: &'r [u8],
+pub(crate) enum Record<'r> {
+    /// How many rows are certain, and how many possible.
+    Counts(u16, u16),
+    /// A row that is in the answer whatever the variables stand for.
+    Certain(Row<'r>),
+    /// A row that may be in the answer.
+    Possible(Row<'r>),
 }
 
-/// The first record of some bytes.
-pub(crate) fn first_record(bytes: &[u8]) -> Option<Record<'_>> {
-    let [l0, l1, k0, k1, rest @ ..] = bytes else {
-        return None;
-    };
-    let size = usize::from(u16::from_le_bytes([*l0, *l1]));
-    Some(Record {
-        kind: u16::from_le_bytes([*k0, *k1]),
-        body: rest.get(0..size)?,
-        rest: rest.get(size..)?,
-    })
-}
-
-/// The counts of certain and of possible rows, from the first record of a reply.
-pub(crate) fn counts(first: Record<'_>) -> Option<(u16, u16)> {
-    let [c0, c1, p0, p1] = first.body else {
-        return None;
-    };
-    if first.kind != 0x20 {
-        return None;
-    }
-    let certain = u16::from_le_bytes([*c0, *c1]);
-    let possible = u16::from_le_bytes([*p0, *p1]);
-    Some((certain, possible))
-}
-
-/// How a row stands in the answer, from the kind of its record.
-pub(crate) fn standing(row: Record<'_>) -> Option<&'static str> {
-    match row.kind {
-        0x21 => Some("certain"),
-        0x22 => Some("possible"),
+/// What a record of this kind says, if there is such a kind and its body has its form.
+fn said(kind: u16, body: &[u8]) -> Option<Record<'_>> {
+    match (kind, body) {
+        (0x20, [c0, c1, p0, p1]) => {
+            let certain = u16::from_le_bytes([*c0, *c1]);
+            let possible = u16::from_le_bytes([*p0, *p1]);
+            Some(Record::Counts(certain, possible))
+        }
+        (0x21, _) => Some(Record::Certain(Row(body))),
+        (0x22, _) => Some(Record::Possible(Row(body))),
         _ => None,
     }
 }
 
-/// A cell of a row: a value, a variable or a pseudonym. The digits of a prefix stay in the reply.
+/// The records of a reply, up to the first that is cut short or says nothing.
 #[derive(Clone, Copy)]
-pub(crate) enum Seen<'r> {
-    Number(u32),
-    Prefix(&'r [u8]),
-    Variable { table: u8, row: u8, column: u8 },
-    Pseudonym { domain: u8, index: u16 },
+pub(crate) struct Records<'r>(pub(crate) &'r [u8]);
+
+impl<'r> Iterator for Records<'r> {
+    type Item = Record<'r>;
+
+    ghost remaining = { λ s. at_most (length s.0.now) };
+
+    fn next(&mut self) -> Option<Record<'r>> {
+        let [l0, l1, k0, k1, behind @ ..] = self.0 else {
+            return None;
+        };
+        let size = usize::from(u16::from_le_bytes([*l0, *l1]));
+        let (body, rest) = behind.split_at_checked(size)?;
+        self.0 = rest;
+        said(u16::from_le_bytes([*k0, *k1]), body)
+    }
 }
 
 /// The first cell of some bytes, and the bytes after it.
-pub(crate) fn first_cell(bytes: &[u8]) -> Option<(Seen<'_>, &[u8])> {
+fn first_cell(bytes: &[u8]) -> Option<(Masked, &[u8])>
+    ensures { IfSome result (λ first. length first.1.now < length bytes.now) }
+{
     match bytes {
         [1, a, b, c, d, rest @ ..] => {
             let number = u32::from_le_bytes([*a, *b, *c, *d]);
-            Some((Seen::Number(number), rest))
+            Some((Masked::Value(Cell::Number(number)), rest))
         }
-        [2, count, rest @ ..] => {
-            let count = usize::from(*count);
-            let digits = rest.get(0..count)?;
-            Some((Seen::Prefix(digits), rest.get(count..)?))
+        [2, count, behind @ ..] => {
+            let (digits, rest) = behind.split_at_checked(usize::from(*count))?;
+            let prefix = Prefix::from_bytes(digits).ok()?;
+            Some((Masked::Value(Cell::Prefix(prefix)), rest))
         }
         [3, table, row, column, rest @ ..] => {
-            let variable = Seen::Variable {
+            let variable = Masked::Variable {
                 table: *table,
                 row: *row,
                 column: *column,
@@ -73,12 +74,28 @@ pub(crate) fn first_cell(bytes: &[u8]) -> Option<(Seen<'_>, &[u8])> {
             Some((variable, rest))
         }
         [4, domain, i0, i1, rest @ ..] => {
-            let pseudonym = Seen::Pseudonym {
+            let pseudonym = Masked::Pseudonym {
                 domain: *domain,
                 index: u16::from_le_bytes([*i0, *i1]),
             };
             Some((pseudonym, rest))
         }
         _ => None,
+    }
+}
+
+/// The cells of a row, up to the first that is cut short.
+#[derive(Clone, Copy)]
+pub(crate) struct Row<'r>(&'r [u8]);
+
+impl Iterator for Row<'_> {
+    type Item = Masked;
+
+    ghost remaining = { λ s. at_most (length s.0.now) };
+
+    fn next(&mut self) -> Option<Masked> {
+        let (cell, rest) = first_cell(self.0)?;
+        self.0 = rest;
+        Some(cell)
     }
 }
