@@ -19,6 +19,8 @@ use std::array;
 
 /// Writes the cell at a position, and counts it where it is a pseudonym: `numbers` has how many
 /// linked cells of each domain are drawn.
+// `cells` and `numbers` stay two parameters: a struct that holds a `&mut` needs clauses on the
+// names of its borrows, which are no plainer.
 fn put(cells: &mut [Masked; 8192], numbers: &mut [u16; 16], at: Position, masked: Masked)
     requires { HasNumber numbers.old masked }
     ensures cell { cells.new ≡ slice_set cells.old (place at.slot.table at.slot.row at.column) masked }
@@ -48,6 +50,7 @@ impl<P: Policy> Scene<'_, P> {
         let Some(values) = self.book.row(slot.table, slot.row) else {
             return;
         };
+        // By number: it is what the policy and the position are asked for, and no value is read here.
         for column in 0..values.len() {
             let mark = self.policy.mark(self.broker, slot.table, values, column);
             let at = Position { slot, column };

@@ -88,6 +88,7 @@ impl Search<'_> {
     }
 
     /// The index of a pseudonym drawn for the value in the columns of the domain.
+    // Each earlier cell is looked at: fixed memory has no room for a map of values.
     pub(crate) fn index(&self) -> Option<u16>
         ensures { Finds self.now (Searched self.now) result }
     {
