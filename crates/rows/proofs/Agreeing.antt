@@ -1,6 +1,8 @@
 -- Whether no two cells of one group differ.
-use Rattle.std.proofs.Common.{◌≡◌, ℕ, ◌+◌, ◌-◌, ◌<◌, ◌≤◌, Bool, true, false, not, ◌&&◌, eqb, List, [], ◌∷◌, ◌++◌, map, length, get_or, take, drop, sym, refl, ap, ◌∙◌, subst, ap₂, arith}
-use Rattle.std.proofs.lemmas.List.{length-map, drop-map, take_rest, take_at, take_all, drop_at, map-append}
+use Rattle.std.proofs.Common.{◌≡◌, ℕ, Bool, true, false, not, ◌&&◌, eqb, List, [], ◌∷◌, ◌++◌, map, length, sym, refl, ap, ◌∙◌, subst, ap₂, arith}
+use Rattle.std.specs.List.{list_all}
+use Rattle.std.proofs.lemmas.List.{map-append}
+use Rattle.std.proofs.lemmas.List.Folds.{list_all-map}
 use Rattle.std.proofs.lemmas.Bool.{eq-eqb, eqb-true}
 use Rattle.semantics.specs.Compatible.{differ, group_of, compatible}
 use Rattle.semantics.specs.Lists.{every}
@@ -10,11 +12,25 @@ use Rattle.semantics.specs.Views.{value, variable, pseudonym}
 use Rattle.semantics.specs.Wider.{same_masked}
 use Rattle.semantics.proofs.Compatible.{differ_self}
 use Rattle.semantics.proofs.Masked.{same-masked, masked_same}
+use Rattle.semantics.proofs.Member.{map_agree}
 use Rattle.semantics.proofs.Values.{same-value, value-self}
-use Rattle.view.specs.declared.masked.Masked.{Masked}
-use Rattle.view.specs.Views.{masked_of}
-use Rattle.rows.specs.Rows.{agrees_with, all_agree, groups_after}
-use Rattle.rows.proofs.Pairs.{left_at, none_left}
+use Rattle.rows.specs.declared.members.Member.{Member}
+use Rattle.rows.specs.Rows.{Grouped, with_group, cell_and_group, agree, all_agree}
+
+-- one cell and those after it
+pub agree_on : (a : Member) (others rest : List Member) (b : Bool) → rest ≡ a ∷ others → b ≡ list_all (λ other. agree (cell_and_group a) (cell_and_group other)) others
+    → all_agree (map cell_and_group rest) ≡ (b && all_agree (map cell_and_group others))
+agree_on a others rest b e h =
+    ap (λ l. all_agree (map cell_and_group l)) e
+    ∙ ap (λ t. t && all_agree (map cell_and_group others)) (list_all-map (agree (cell_and_group a)) cell_and_group others ∙ sym h)
+
+-- the cells of two rows, put one row after the other
+pub rows_joined : (f g : semantics.Masked → semantics.Masked) (none one two : List Grouped) (r s : List semantics.Masked) → ((c : semantics.Masked) → f c ≡ g c)
+    → none ≡ [] → one ≡ none ++ map (with_group f) r → two ≡ one ++ map (with_group f) s → two ≡ map (with_group g) (r ++ s)
+rows_joined f g none one two r s e n o t =
+    t ∙ ap (λ l. l ++ map (with_group f) s) (o ∙ ap (λ l. l ++ map (with_group f) r) n)
+    ∙ sym (map-append (with_group f) r s)
+    ∙ map_agree (with_group f) (with_group g) (r ++ s) (λ c m. ap (λ x. record { cell = c; group = x }) (e c))
 
 -- A test of all pairs of a list's elements, where it does not matter which comes first: it is enough to test each with those after it.
 module _ {X : Type 0} (q : X → X → Bool) (self : (x : X) → q x x ≡ true) (turned : (x y : X) → q x y ≡ q y x) where
@@ -89,52 +105,16 @@ module _ (group : semantics.Masked → semantics.Masked) where
   fine-turned : (a b : semantics.Masked) → fine a b ≡ fine b a
   fine-turned a b = ap₂ (λ x y. not (x && y)) (differ-turned a b) (masked-turned (group a) (group b))
 
-  with_function : (a : semantics.Masked) (cells : List semantics.Masked) → agrees_with a (group a) cells (map group cells) ≡ every (fine a) cells
-  with_function a [] = refl
-  with_function a (b ∷ cells) = ap (λ t. fine a b && t) (with_function a cells)
-
-  all-later : (cells : List semantics.Masked) → all_agree cells (map group cells) ≡ later fine fine-self fine-turned cells
+  all-later : (cells : List semantics.Masked) → all_agree (map (with_group group) cells) ≡ later fine fine-self fine-turned cells
   all-later [] = refl
-  all-later (a ∷ cells) = ap₂ ◌&&◌ (with_function a cells) (all-later cells)
+  all-later (a ∷ cells) = ap₂ ◌&&◌ (list_all-map (agree (with_group group a)) (with_group group) cells) (all-later cells)
 
-  pub agree-every : (cells : List semantics.Masked) → all_agree cells (map group cells) ≡ every (λ a. every (fine a) cells) cells
+  pub agree-every : (cells : List semantics.Masked) → all_agree (map (with_group group) cells) ≡ every (λ a. every (fine a) cells) cells
   agree-every cells = all-later cells ∙ later-every fine fine-self fine-turned cells
 
 -- the test of two rows
-agree-rows : (r s : List semantics.Masked) (width : ℕ) → length r ≡ width → length s ≡ width → all_agree (r ++ s) (groups_after width width (r ++ s)) ≡ compatible r s
-agree-rows r s width l m =
-    let p : take width (take width (r ++ s)) ≡ r = ap (take width) (take_at r s width l) ∙ take_all width r (omega arith) in
-    let q : take width (drop width (r ++ s)) ≡ s = ap (take width) (drop_at r s width l) ∙ take_all width s (omega arith) in
-    ap₂ (λ x y. all_agree (r ++ s) (map (group_of x y) (r ++ s))) p q
+pub agree-rows : (r s : List semantics.Masked) (cells : List Grouped) → length r ≡ length s → cells ≡ map (with_group (group_of r s)) (r ++ s) → all_agree cells ≡ compatible r s
+agree-rows r s cells l e =
+    ap all_agree e
     ∙ agree-every (group_of r s) (r ++ s)
-    ∙ ap (λ b. b && every (λ a. every (fine (group_of r s) a) (r ++ s)) (r ++ s)) (sym (eq-eqb (length r) (length s) (l ∙ sym m)))
-
--- the rows and the groups stand at the front of longer lists
-pub rows_agree : (a b cells groups : List Masked) (width both : ℕ) → length a ≡ width → length b ≡ width → both ≡ width + width → take (width + width) cells ≡ a ++ b
-    → map masked_of (take (width + width) groups) ≡ groups_after width width (map masked_of (take (width + width) cells))
-    → all_agree (map masked_of (take both cells)) (map masked_of (take both groups)) ≡ compatible (map masked_of a) (map masked_of b)
-rows_agree a b cells groups width both l m k e g =
-    let p : map masked_of (take (width + width) cells) ≡ map masked_of a ++ map masked_of b = ap (map masked_of) e ∙ map-append masked_of a b in
-    ap (λ n. all_agree (map masked_of (take n cells)) (map masked_of (take n groups))) k
-    ∙ ap (all_agree (map masked_of (take (width + width) cells))) g
-    ∙ ap (λ c. all_agree c (groups_after width width c)) p
-    ∙ agree-rows (map masked_of a) (map masked_of b) width (length-map a masked_of ∙ l) (length-map b masked_of ∙ m)
-
--- A loop over the cells: what is left of them decides.
-module _ (cells groups : List Masked) (i : ℕ) where
-  module _ (x g : Masked) (h : i < length cells) (k : i < length groups) (xe : x ≡ get_or cells i x) (ge : g ≡ get_or groups i g)
-      (e : all_agree (drop i (map masked_of cells)) (drop i (map masked_of groups)) ≡ all_agree (map masked_of cells) (map masked_of groups)) where
-    rest : (xs : List Masked) → map masked_of (take (length xs - (i + 1)) (drop (i + 1) xs)) ≡ drop (i + 1) (map masked_of xs)
-    rest xs = ap (map masked_of) (take_rest xs (i + 1)) ∙ sym (drop-map masked_of (i + 1) xs)
-
-    pub all-at : (b : Bool) → agrees_with (masked_of x) (masked_of g) (map masked_of (take (length cells - (i + 1)) (drop (i + 1) cells))) (map masked_of (take (length groups - (i + 1)) (drop (i + 1) groups))) ≡ b
-        → (b && all_agree (drop (i + 1) (map masked_of cells)) (drop (i + 1) (map masked_of groups))) ≡ all_agree (map masked_of cells) (map masked_of groups)
-    all-at b t =
-        let u : agrees_with (masked_of x) (masked_of g) (drop (i + 1) (map masked_of cells)) (drop (i + 1) (map masked_of groups)) ≡ b =
-        sym (ap₂ (agrees_with (masked_of x) (masked_of g)) (rest cells) (rest groups)) ∙ t in
-        sym (ap₂ all_agree (left_at masked_of cells i x h xe) (left_at masked_of groups i g k ge)
-        ∙ ap (λ c. c && all_agree (drop (i + 1) (map masked_of cells)) (drop (i + 1) (map masked_of groups))) u) ∙ e
-
-  pub all_end : length cells ≤ i → all_agree (drop i (map masked_of cells)) (drop i (map masked_of groups)) ≡ all_agree (map masked_of cells) (map masked_of groups)
-      → true ≡ all_agree (map masked_of cells) (map masked_of groups)
-  all_end h e = sym (ap (λ c. all_agree c (drop i (map masked_of groups))) (none_left masked_of cells i h)) ∙ e
+    ∙ ap (λ b. b && every (λ a. every (λ b. not (differ a b && same_masked (group_of r s a) (group_of r s b))) (r ++ s)) (r ++ s)) (sym (eq-eqb (length r) (length s) l))

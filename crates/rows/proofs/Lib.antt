@@ -1,5 +1,3 @@
-pub mod Pairs
-pub mod Columns
 pub mod Uniting
 pub mod Agreeing
-pub mod Fronts
+pub mod Columnwise

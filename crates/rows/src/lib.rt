@@ -2,9 +2,9 @@
 
 #![tactic(auto)]
 
-mod agree;
-mod differ;
+mod columns;
 mod groups;
+mod members;
 mod same;
 #[cfg(test)]
 mod tests;

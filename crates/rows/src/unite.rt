@@ -1,33 +1,70 @@
-ghost use Rattle.std.specs.Prelude.{◌≡◌, ◌+◌, map, length};
-ghost use Rattle.semantics.specs.Compatible.{united};
+ghost use Rattle.std.specs.Prelude.{◌≡◌, ◌+◌, ◌<◌, ◌≤◌, [], ◌∷◌, ◌++◌, map, length};
+ghost use Rattle.bounded.specs.Bounded.{items};
+ghost use Rattle.semantics.specs.Compatible.{united, group_of};
+ghost use Rattle.semantics.specs.Views as semantics;
 ghost use Rattle.view.specs.Views.{masked_of};
-ghost use Rattle.rows.specs.Rows.{groups_after};
+ghost use Rattle.rows.specs.Rows.{group_after};
 
-use crate::same::same_cell;
+use bounded::Bounded;
+use cells::Cell;
 use view::Masked;
 
-/// Every group that goes by `x` goes by `y` from now on.
-fn unite(groups: &mut [Masked], x: Masked, y: Masked)
-    ensures { map masked_of groups.new ≡ map (united (masked_of x) (masked_of y)) (map masked_of groups.old) }
-{
-    for group in groups.iter_mut() {
-        if same_cell(group, &x) {
-            *group = y;
-        }
-    }
+/// Groups of cells, each of which goes by one of its cells. At first each cell is a group of its own.
+/// Each pair in `united` was one union: the group that went by the first goes by the second since.
+#[derive(Clone, Copy)]
+pub(crate) struct Groups {
+    pub(crate) united: Bounded<(Masked, Masked), 8>,
 }
 
-/// From the cells of one row and then those of another, as wide, what the group of each goes by
-/// once the two cells of each column are in one group.
-pub(crate) fn unite_columns(groups: &mut [Masked], width: usize)
-    requires { length groups.old ≡ width + width }
-    ensures { map masked_of groups.new ≡ groups_after width width (map masked_of groups.old) }
+/// What a group goes by after a union.
+#[tactic(auto, using(view::proofs::Same::equal_masked))]
+#[inline(always)]
+fn gone_by(group: Masked, union: &(Masked, Masked)) -> Masked
+    ensures { masked_of result ≡ united (masked_of union.now.0) (masked_of union.now.1) (masked_of group) }
 {
-    for i in 0..width {
-        let x = groups[i];
-        let y = groups[width + i];
-        if !same_cell(&x, &y) {
-            unite(groups, x, y);
+    if group == union.0 { union.1 } else { group }
+}
+
+impl Groups {
+    /// Each cell in a group of its own.
+    fn apart() -> Groups
+        ensures { items result.united ≡ [] }
+    {
+        let blank = Masked::Value(Cell::Number(0));
+        Groups {
+            united: Bounded::new((blank, blank)),
         }
+    }
+
+    /// What the group of a cell goes by.
+    #[inline(always)]
+    pub(crate) fn of(&self, cell: Masked) -> Masked
+        ensures { masked_of result ≡ group_after (items self.now.united) (masked_of cell) }
+    {
+        self.united.as_slice().iter().fold(cell, gone_by)
+    }
+
+    /// Puts two cells into one group.
+    fn unite(&mut self, x: Masked, y: Masked)
+        requires { length (items self.old.united) < 8 }
+        ensures one { (c : semantics.Masked) → group_after (items self.new.united) c ≡ united (group_after (items self.old.united) (masked_of x)) (group_after (items self.old.united) (masked_of y)) (group_after (items self.old.united) c) }
+        ensures few { length (items self.new.united) ≤ length (items self.old.united) + 1 }
+    {
+        let (first, second) = (self.of(x), self.of(y));
+        if first != second {
+            let _ = self.united.push((first, second));
+        }
+    }
+
+    /// The groups of the cells of two rows, where the two cells of each column are in one group.
+    pub(crate) fn of_columns(a: &[Masked], b: &[Masked]) -> Groups
+        requires { length a.now ≤ 8 }
+        ensures { (c : semantics.Masked) → group_after (items result.united) c ≡ group_of (map masked_of a.now) (map masked_of b.now) c }
+    {
+        let mut groups = Groups::apart();
+        for (x, y) in a.iter().zip(b) {
+            groups.unite(*x, *y);
+        }
+        groups
     }
 }

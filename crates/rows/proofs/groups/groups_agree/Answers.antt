@@ -1,10 +1,12 @@
-use Rattle.std.proofs.Common.{◌+◌, ◌-◌, length, sym, refl, ◌∙◌, arith}
-use Rattle.rows.proofs.Agreeing.{rows_agree}
+use Rattle.std.proofs.Common.{map, ap, ◌∙◌, arith}
+use Rattle.std.proofs.lemmas.List.{length-map}
+use Rattle.view.specs.Views.{masked_of}
+use Rattle.rows.specs.Rows.{cell_and_group}
+use Rattle.rows.proofs.Agreeing.{agree-rows}
 use Rattle.rows.proofs.groups.groups_agree.Goals as goal
 
 pub returns : goal.returns
 returns c =
-    let width = length c.args.a.now in
-    c.all_agree.ensures
-    ∙ rows_agree c.args.a.now c.args.b.now c.both-cells.result c.grouped-groups.result width (width + width - 0) refl (sym c.requires.1) (omega arith)
-    c.both-cells.ensures.cells c.grouped-groups.ensures.united
+    let l = length-map c.args.a.now masked_of in
+    let m = length-map c.args.b.now masked_of in
+    c.all_agree.ensures ∙ agree-rows (map masked_of c.args.a.now) (map masked_of c.args.b.now) _ (omega arith) (ap (map cell_and_group) c.as_slice.ensures.value ∙ c.members.ensures)
