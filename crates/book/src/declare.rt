@@ -47,6 +47,7 @@ fn add_column(tables: &mut [Columns], table: usize, column: Column)
 
 impl Draft {
     /// A draft of four tables without columns.
+    // No Default beside it: `new` is the word of every caller.
     pub fn new() -> Draft
         ensures { columns_in result.tables ≡ blank }
     {

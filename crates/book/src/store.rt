@@ -77,6 +77,7 @@ impl Book<'_> {
     }
 
     /// Appends a row to a table.
+    // Two clauses and no word for both: the step is the definition's, what is kept is memory, which none speaks of.
     pub fn store(&mut self, table: usize, row: &[Cell]) -> Result<(), Refusal>
         ensures step { Steps result (stored (book_model self.old) table (map cell_value row.now)) (book_model self.old) (book_model self.new) }
         ensures kept { Kept result (memory self.old) (memory self.new) }

@@ -37,6 +37,7 @@ fn entry_mark(entry: Consent, column: usize) -> Mark
 
 impl Consents {
     /// A register without entries.
+    // No Default beside it: `new` is the word of every caller.
     pub fn new() -> Consents
         ensures { entries_of result ≡ [] }
     {

@@ -49,6 +49,7 @@ fn may_test(test: Test) -> bool
 
 impl Filters {
     /// Filters without rules, which hide all.
+    // No Default beside it: `new` is the word of every caller.
     pub fn new() -> Filters
         ensures { rules_of result ≡ [] }
     {

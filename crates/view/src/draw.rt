@@ -65,6 +65,7 @@ impl<P: Policy> Scene<'_, P> {
         requires drawn { DrawnFor (P.Policy.meaning self.now.policy.now) self.now.broker (book_model self.now.book.now) (place_of table 0 0) cells.old numbers.old }
         ensures { DrawnFor (P.Policy.meaning self.now.policy.now) self.now.broker (book_model self.now.book.now) (place_of (table + 1) 0 0) cells.new numbers.new }
     {
+        // By number: the slot of a row is made of it.
         for row in 0..self.book.row_count(table) {
             self.draw_row(cells, numbers, Slot { table, row });
         }

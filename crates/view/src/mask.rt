@@ -38,6 +38,7 @@ fn pseudonym(
 }
 
 /// The variable of a position.
+// A function and no From: a position is more than a cell that is masked.
 fn variable(at: Position) -> Masked
     ensures { result ≡ Variable at.slot.table at.slot.row at.column }
 {
@@ -46,6 +47,7 @@ fn variable(at: Position) -> Masked
 }
 
 /// How the cell at a position is masked under its mark; `numbers` has the next number of each domain.
+// An array of 16: fixed memory, with a number for each domain that there may be.
 pub(crate) fn mask(
     cells: &[Masked; 8192],
     numbers: &[u16; 16],

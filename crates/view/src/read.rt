@@ -9,6 +9,7 @@ use cells::Cell;
 
 impl View {
     /// The view of nothing: four tables without rows.
+    // No Default beside it: `new` is the word of every caller.
     pub fn new() -> View
         ensures { view_tables result ≡ [] ∷ [] ∷ [] ∷ [] ∷ [] }
     {
@@ -50,6 +51,7 @@ impl View {
     pub fn row(&self, table: usize, row: usize) -> Option<&[Masked]>
         ensures { RowSeen (view_tables self.now) table row result }
     {
+        // By an early return, as a book reads a row.
         if row >= self.row_count(table) {
             return None;
         }
