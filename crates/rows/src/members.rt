@@ -67,6 +67,7 @@ pub(crate) fn all_agree(members: &[Member]) -> bool
     ensures { result ≡ all_agree (map cell_and_group members.now) }
 {
     let mut rest = members;
+    // No other place walks so: an iterator for it would be no plainer.
     while let Some((member, others)) = rest.split_first() {
         if !member.agrees_with_all(others) {
             return false;
