@@ -2,7 +2,7 @@
 
 use crate::times::Times;
 use answer::answer;
-use anyhow::anyhow;
+use anyhow::Context;
 use book::Book;
 use cells::Cell;
 use policy::Policy;
@@ -36,10 +36,8 @@ impl Lent {
     fn answer(&mut self, view: &View, plan: &Plan, query: &[u8]) -> anyhow::Result<()> {
         let work = self.work.as_mut_slice();
         let reply = self.reply.as_mut_slice();
-        match answer(view, plan, query, work, reply) {
-            Ok(_) => Ok(()),
-            Err(_) => Err(anyhow!("a query was refused")),
-        }
+        answer(view, plan, query, work, reply).context("a query was refused")?;
+        Ok(())
     }
 
     /// The counts of certain and of possible rows in the last reply.
@@ -51,40 +49,22 @@ impl Lent {
         let possible = u16::from_le_bytes([*p0, *p1]);
         Some((certain, possible))
     }
+}
 
-    /// The times of answering a query.
-    fn answer_times(
-        &mut self,
-        rt: &HostRuntime,
-        view: &View,
-        plan: &Plan,
-        query: &[u8],
-    ) -> anyhow::Result<Times> {
-        let mut times = Times::none();
-        for _ in 0..ROUNDS {
-            let start = Instant::now(rt)?;
-            self.answer(view, plan, query)?;
-            times.add(start.elapsed(rt)?);
-            if times.enough() {
-                break;
-            }
+/// The times of many rounds of a step.
+fn timed<F: FnMut() -> anyhow::Result<()>>(rt: &HostRuntime, mut step: F) -> anyhow::Result<Times>
+    requires { F.IsAlwaysCallable step }
+{
+    let mut times = Times::none();
+    for _ in 0..ROUNDS {
+        let start = Instant::now(rt)?;
+        step()?;
+        times.add(start.elapsed(rt)?);
+        if times.enough() {
+            break;
         }
-        Ok(times)
     }
-
-    /// The times of clearing the workspace.
-    pub(crate) fn clear_times(&mut self, rt: &HostRuntime) -> anyhow::Result<Times> {
-        let mut times = Times::none();
-        for _ in 0..ROUNDS {
-            let start = Instant::now(rt)?;
-            clear(self.work.as_mut_slice());
-            times.add(start.elapsed(rt)?);
-            if times.enough() {
-                break;
-            }
-        }
-        Ok(times)
-    }
+    Ok(times)
 }
 
 /// The times of drawing a view.
@@ -94,20 +74,22 @@ pub(crate) fn draw_times<P: Policy>(
     policy: &P,
     view: &mut View,
 ) -> anyhow::Result<Times> {
-    let mut times = Times::none();
-    for _ in 0..ROUNDS {
-        let start = Instant::now(rt)?;
+    timed(rt, || {
         view.draw(book, policy, 7);
-        times.add(start.elapsed(rt)?);
-        if times.enough() {
-            break;
-        }
-    }
-    Ok(times)
+        Ok(())
+    })
+}
+
+/// The times of clearing a workspace.
+pub(crate) fn clear_times(rt: &HostRuntime, lent: &mut Lent) -> anyhow::Result<Times> {
+    timed(rt, || {
+        clear(lent.work.as_mut_slice());
+        Ok(())
+    })
 }
 
 /// What is printed of each query.
-#[derive(Clone, Copy)]
+#[derive(Clone, Copy, PartialEq, Eq)]
 pub(crate) enum Mode {
     /// How many certain and possible rows it has.
     Counts,
@@ -115,34 +97,39 @@ pub(crate) enum Mode {
     Times,
 }
 
-/// Asks a query over the view under a policy, and prints a line.
-pub(crate) fn ask<P: Policy>(
-    rt: &HostRuntime,
-    mode: Mode,
-    lent: &mut Lent,
-    book: &Book<'_>,
-    policy: &P,
-    name: &str,
-    query: &Query,
-) -> anyhow::Result<()> {
-    let bytes = query.bytes();
-    let Ok(plan) = check(bytes, book) else {
-        return Err(anyhow!("a query was refused"));
-    };
-    let mut view = View::new();
-    view.draw(book, policy, 7);
-    lent.answer(&view, &plan, bytes)?;
-    let Some((certain, possible)) = lent.counts() else {
-        return Err(anyhow!("a reply is too short"));
-    };
-    print!(rt; "{name:<24} {certain:>9} {possible:>9}")?;
-    if let Mode::Times = mode {
-        let drawn = draw_times(rt, book, policy, &mut view)?.least();
-        let times = lent.answer_times(rt, &view, &plan, bytes)?;
-        let least = times.least();
-        let mean = times.mean();
-        print!(rt; " {least:>12} {mean:>12} {drawn:>12}")?;
+/// What queries are put with: a book, what is lent to answers, and what is printed.
+#[derive(Drop)]
+pub(crate) struct Bench<'a, 'm> {
+    pub(crate) rt: &'a HostRuntime,
+    pub(crate) mode: Mode,
+    pub(crate) lent: &'a mut Lent,
+    pub(crate) book: &'a Book<'m>,
+}
+
+impl Bench<'_, '_> {
+    /// Asks a query over the view under a policy, and prints a line.
+    pub(crate) fn ask<P: Policy>(
+        &mut self,
+        policy: &P,
+        name: &str,
+        query: &Query,
+    ) -> anyhow::Result<()> {
+        let rt = self.rt;
+        let bytes = query.bytes();
+        let plan = check(bytes, self.book).context("a query was refused")?;
+        let mut view = View::new();
+        view.draw(self.book, policy, 7);
+        self.lent.answer(&view, &plan, bytes)?;
+        let (certain, possible) = self.lent.counts().context("a reply is too short")?;
+        print!(rt; "{name:<24} {certain:>9} {possible:>9}")?;
+        if self.mode == Mode::Times {
+            let drawn = draw_times(rt, self.book, policy, &mut view)?.least();
+            let times = timed(rt, || self.lent.answer(&view, &plan, bytes))?;
+            let least = times.least();
+            let mean = times.mean();
+            print!(rt; " {least:>12} {mean:>12} {drawn:>12}")?;
+        }
+        println!(rt; "")?;
+        Ok(())
     }
-    println!(rt; "")?;
-    Ok(())
 }

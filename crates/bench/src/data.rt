@@ -14,25 +14,15 @@
 use book::{Book, Draft};
 use cells::{Cell, Prefix};
 use semantics::Refusal;
-
-/// Declares eight numbers of domain 1 in a table.
-fn declare_numbers(draft: &mut Draft, table: usize) -> Result<(), Refusal> {
-    for _ in 0..8 {
-        draft.declare(table, 1, 1)?;
-    }
-    Ok(())
-}
+use tariffs::{declare, last_digit, number, prefix};
 
 /// The columns of all tables.
 pub(crate) fn columns() -> Result<Draft, Refusal> {
     let mut draft = Draft::new();
-    declare_numbers(&mut draft, 0)?;
-    declare_numbers(&mut draft, 1)?;
-    draft.declare(2, 2, 0)?;
-    draft.declare(2, 1, 0)?;
-    draft.declare(2, 1, 0)?;
-    draft.declare(2, 1, 0)?;
-    declare_numbers(&mut draft, 3)?;
+    declare(&mut draft, 0, &[number(1); 8])?;
+    declare(&mut draft, 1, &[number(1); 8])?;
+    declare(&mut draft, 2, &[prefix(0), number(0), number(0), number(0)])?;
+    declare(&mut draft, 3, &[number(1); 8])?;
     Ok(draft)
 }
 
@@ -49,11 +39,6 @@ fn store(book: &mut Book<'_>, table: usize, key: u32, last: u32) -> Result<(), R
         Cell::Number(last),
     ];
     book.store(table, &row)
-}
-
-/// The last decimal digit of a number.
-fn last_digit(number: u32) -> u8 {
-    b'0' + (number % 10) as u8
 }
 
 /// A number below 1000 as a prefix, without leading zeros.
@@ -98,9 +83,7 @@ pub(crate) fn fill(book: &mut Book<'_>) -> Result<(), Refusal> {
 pub(crate) fn prefixes() -> Result<Draft, Refusal> {
     let mut draft = Draft::new();
     for table in 0..4 {
-        for _ in 0..8 {
-            draft.declare(table, 2, 1)?;
-        }
+        declare(&mut draft, table, &[prefix(1); 8])?;
     }
     Ok(draft)
 }
@@ -133,12 +116,10 @@ fn store_prefixes(book: &mut Book<'_>, table: usize, first: u32, last: u32) -> R
 
 /// Stores all rows of the second book.
 pub(crate) fn fill_prefixes(book: &mut Book<'_>) -> Result<(), Refusal> {
-    let mut first = 10_000_000_u32;
-    for table in 0..4 {
-        let last = if table < 2 { 6 } else { 7 };
-        for _ in 0..256 {
-            store_prefixes(book, table, first, last)?;
-            first = first.wrapping_add(8);
+    for (table, last) in [(0, 6), (1, 6), (2, 7), (3, 7)] {
+        for row in 0..256 {
+            let place = 256 * table + row;
+            store_prefixes(book, table as usize, 10_000_000 + 8 * place, last)?;
         }
     }
     Ok(())

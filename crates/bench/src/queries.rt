@@ -96,8 +96,8 @@ pub(crate) fn union(heap: Global) -> Result<Query, WriteError> {
 pub(crate) fn differences(heap: Global) -> Result<Query, WriteError> {
     let mut query = Query::new(heap);
     query.table(0)?;
-    for turn in 0..7 {
-        query.table(if turn % 2 == 0 { 1 } else { 3 })?;
+    for table in [1, 3, 1, 3, 1, 3, 1] {
+        query.table(table)?;
         query.difference()?;
     }
     Ok(query)
