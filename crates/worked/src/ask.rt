@@ -27,7 +27,7 @@ fn litter(place: usize) -> Masked {
 
 /// What stands in a byte of the reply buffer beforehand.
 fn pattern(place: usize) -> u8 {
-    ((place % 251) & 0xff) as u8
+    (place % 251) as u8
 }
 
 /// Fills the workspace and the reply buffer.
@@ -40,32 +40,19 @@ pub(crate) fn fill(work: &mut [Masked], reply: &mut [u8]) {
     }
 }
 
-/// Whether a cell is the number 0.
-fn is_zero(cell: Masked) -> bool {
-    match cell {
-        Masked::Value(Cell::Number(number)) => number == 0,
-        _ => false,
-    }
-}
-
 /// Whether every cell is the number 0.
 pub(crate) fn all_zero(work: &[Masked]) -> bool {
-    for cell in work {
-        if !is_zero(*cell) {
-            return false;
-        }
-    }
-    true
+    work.iter()
+        .all(|cell| *cell == Masked::Value(Cell::Number(0)))
 }
 
 /// Whether the bytes from a place on are as they were filled.
 pub(crate) fn kept_from(reply: &[u8], start: usize) -> bool {
-    for (place, byte) in reply.iter().enumerate() {
-        if place >= start && *byte != pattern(place) {
-            return false;
-        }
-    }
-    true
+    reply
+        .iter()
+        .enumerate()
+        .skip(start)
+        .all(|(place, byte)| *byte == pattern(place))
 }
 
 /// Answers a query for a broker. Where the query is not well-formed, the workspace is cleared here.

@@ -5,93 +5,66 @@
 #![tactic(auto)]
 
 mod ask;
-mod digits;
 mod marks;
 mod report;
 mod stock;
 
-use anyhow::anyhow;
+use anyhow::Context;
 use book::{Book, Draft};
 use cells::Cell;
 use marks::Brokers;
-use report::Asked;
+use report::{Asked, Stock};
 use semantics::Refusal;
+use tariffs::{declare, number, prefix};
 use view::Masked;
 
 /// Tables 0 and 1 hold a prefix and two numbers, table 2 two numbers and a prefix, table 3 a
 /// customer's number, two prefixes and three numbers. Domain 1 has prefixes, domains 2 and 3 numbers.
 fn columns() -> Result<Draft, Refusal> {
     let mut draft = Draft::new();
-    draft.declare(0, 2, 1)?;
-    draft.declare(0, 1, 0)?;
-    draft.declare(0, 1, 0)?;
-    draft.declare(1, 2, 1)?;
-    draft.declare(1, 1, 2)?;
-    draft.declare(1, 1, 0)?;
-    draft.declare(2, 1, 2)?;
-    draft.declare(2, 1, 2)?;
-    draft.declare(2, 2, 0)?;
-    draft.declare(3, 1, 0)?;
-    draft.declare(3, 2, 1)?;
-    draft.declare(3, 2, 1)?;
-    draft.declare(3, 1, 2)?;
-    draft.declare(3, 1, 2)?;
-    draft.declare(3, 1, 3)?;
+    declare(&mut draft, 0, &[prefix(1), number(0), number(0)])?;
+    declare(&mut draft, 1, &[prefix(1), number(2), number(0)])?;
+    declare(&mut draft, 2, &[number(2), number(2), prefix(0)])?;
+    declare(&mut draft, 3, &[number(0), prefix(1), prefix(1)])?;
+    declare(&mut draft, 3, &[number(2), number(2), number(3)])?;
     Ok(draft)
 }
 
 /// Puts the query of each line to the book that the line names.
 fn lines(
     rt: &HostRuntime,
-    texts: &[String],
     short: &Book<'_>,
     tall: &Book<'_>,
     policy: &Brokers,
 ) -> anyhow::Result<()> {
     let mut work = vec![in rt.alloc(); Masked::Value(Cell::Number(0)); 131072]?;
     let mut reply = vec![in rt.alloc(); 0; 65536]?;
-    for text in texts {
-        let Some((name, words)) = text.as_str().split_once(':') else {
-            return Err(anyhow!("a line without a colon"));
-        };
+    for line in rt.lines(rt.alloc()) {
+        let line = line?;
+        let (name, words) = line
+            .as_str()
+            .split_once(':')
+            .context("a line without a colon")?;
         let asked = Asked::read(rt.alloc(), words)?;
-        if asked.tall {
-            report::put(rt, name, tall, policy, &asked, &mut work, &mut reply)?;
-        } else {
-            report::put(rt, name, short, policy, &asked, &mut work, &mut reply)?;
+        // The proof did not close with the book picked first: the two references have two lifetimes.
+        match asked.stock {
+            Stock::Short => report::put(rt, name, short, policy, &asked, &mut work, &mut reply)?,
+            Stock::Tall => report::put(rt, name, tall, policy, &asked, &mut work, &mut reply)?,
         }
     }
     Ok(())
 }
 
 /// Fills both books and goes through the lines.
-fn books(rt: &HostRuntime, texts: &[String], first: Draft, second: Draft) -> anyhow::Result<()> {
-    let mut cells = [Cell::Number(0); 256];
-    let mut short = first.open(&mut cells);
-    let mut more = [Cell::Number(0); 8192];
-    let mut tall = second.open(&mut more);
-    if stock::short(&mut short).is_err() || stock::tall(&mut tall).is_err() {
-        return Err(anyhow!("a row was refused"));
-    }
-    let Ok(policy) = marks::policy() else {
-        return Err(anyhow!("a rule or a consent was refused"));
-    };
-    lines(rt, texts, &short, &tall, &policy)
-}
-
-/// Reads the lines, and declares the columns of both books.
 fn run(rt: &HostRuntime) -> anyhow::Result<()> {
-    let mut texts = Vec::new(rt.alloc());
-    for line in rt.lines(rt.alloc()) {
-        texts.push(line?)?;
-    }
-    let Ok(first) = columns() else {
-        return Err(anyhow!("a column was refused"));
-    };
-    let Ok(second) = columns() else {
-        return Err(anyhow!("a column was refused"));
-    };
-    books(rt, texts.as_slice(), first, second)
+    let mut cells = [Cell::Number(0); 256];
+    let mut short = columns()?.open(&mut cells);
+    stock::short(&mut short).context("a row was refused")?;
+    let mut more = [Cell::Number(0); 8192];
+    let mut tall = columns()?.open(&mut more);
+    stock::tall(&mut tall).context("a row was refused")?;
+    let policy = marks::policy().context("a rule or a consent was refused")?;
+    lines(rt, &short, &tall, &policy)
 }
 
 fn main(rt: HostRuntime) -> anyhow::Result<()> {

@@ -2,6 +2,7 @@
 
 use policy::{Both, Consents, Either, Filters};
 use semantics::{Consent, Refusal, Rule, Sign, Test};
+use std::array;
 
 /// Rules by which a broker sees a table in so far as customers consent.
 pub(crate) type Consented = Both<Filters, Consents>;
@@ -77,13 +78,7 @@ fn second_rules() -> Result<Filters, Refusal> {
 
 /// The set of these columns.
 fn set(columns: &[usize]) -> [bool; 8] {
-    let mut set = [false; 8];
-    for column in columns {
-        if *column < set.len() {
-            set[*column] = true;
-        }
-    }
-    set
+    array::from_fn(|column| columns.contains(&column))
 }
 
 /// A customer's consent.

@@ -1,17 +1,28 @@
 //! The lines that are read and written.
 
+use crate::ask;
 use crate::marks::Brokers;
-use crate::{ask, digits};
-use anyhow::anyhow;
+use anyhow::{Context, anyhow};
 use book::Book;
 use reply::refusal_record;
 use std::alloc::Global;
+use std::fmt;
+use tariffs::from_hex;
 use view::Masked;
+
+/// The book that a line names.
+#[derive(Clone, Copy)]
+pub(crate) enum Stock {
+    /// Three to eight rows in each table.
+    Short,
+    /// Up to 256 rows in a table.
+    Tall,
+}
 
 /// What a line asks: a book, a broker, how much of the memory is lent, and a query.
 #[derive(Drop)]
 pub(crate) struct Asked {
-    pub(crate) tall: bool,
+    pub(crate) stock: Stock,
     broker: u16,
     cells: usize,
     bytes: usize,
@@ -30,9 +41,13 @@ impl Asked {
         ) else {
             return Err(anyhow!("a line with too few words"));
         };
-        let query = digits::bytes(heap, words.next().unwrap_or(""))?;
+        let query = from_hex(heap, words.next().unwrap_or(""))?;
         Ok(Asked {
-            tall: book == "tall",
+            stock: if book == "tall" {
+                Stock::Tall
+            } else {
+                Stock::Short
+            },
             broker: broker.parse::<u16>()?,
             cells: cells.parse::<usize>()?,
             bytes: bytes.parse::<usize>()?,
@@ -41,12 +56,26 @@ impl Asked {
     }
 }
 
+/// What became of the memory that was lent: whether the workspace is all zeros, and whether the rest of
+/// the reply buffer is as it was.
+#[derive(Clone, Copy)]
+struct Left {
+    clear: bool,
+    kept: bool,
+}
+
+impl fmt::Display for Left {
+    fn fmt<W: fmt::Write>(&self, f: &mut fmt::Formatter<W>) -> fmt::Result {
+        let work = if self.clear { "clear" } else { "NOT CLEAR" };
+        let rest = if self.kept { "kept" } else { "ALTERED" };
+        write!(f, "{work} {rest}")
+    }
+}
+
 /// Writes a line: the name, the reply or the refusal record, and what became of the memory.
-fn show(rt: &HostRuntime, name: &str, bytes: &[u8], clear: bool, kept: bool) -> anyhow::Result<()> {
-    let text = digits::text(rt.alloc(), bytes)?;
-    let work = if clear { "clear" } else { "NOT CLEAR" };
-    let rest = if kept { "kept" } else { "ALTERED" };
-    println!(rt; "{name}: {text} {work} {rest}")?;
+fn show(rt: &HostRuntime, name: &str, bytes: &[u8], left: Left) -> anyhow::Result<()> {
+    let text = hex::encode(rt.alloc(), bytes)?;
+    println!(rt; "{name}: {text} {left}")?;
     Ok(())
 }
 
@@ -60,12 +89,12 @@ pub(crate) fn put(
     work: &mut [Masked],
     reply: &mut [u8],
 ) -> anyhow::Result<()> {
-    let (cells, bytes) = (asked.cells, asked.bytes);
-    if cells > work.len() || bytes > reply.len() {
-        return Err(anyhow!("a line with too much memory"));
-    }
-    let work = &mut work[0..cells];
-    let reply = &mut reply[0..bytes];
+    let work = work
+        .get_mut(..asked.cells)
+        .context("a line with too many cells")?;
+    let reply = reply
+        .get_mut(..asked.bytes)
+        .context("a line with too many bytes")?;
     ask::fill(work, reply);
     let query = asked.query.as_slice();
     let outcome = ask::ask(book, policy, asked.broker, query, work, reply);
@@ -73,12 +102,12 @@ pub(crate) fn put(
     match outcome {
         Ok(size) => {
             let kept = ask::kept_from(reply, size);
-            let end = size.min(reply.len());
-            show(rt, name, &reply[0..end], clear, kept)
+            let bytes = reply.get(..size).unwrap_or(reply);
+            show(rt, name, bytes, Left { clear, kept })
         }
         Err(refusal) => {
             let kept = ask::kept_from(reply, 0);
-            show(rt, name, &refusal_record(refusal), clear, kept)
+            show(rt, name, &refusal_record(refusal), Left { clear, kept })
         }
     }
 }

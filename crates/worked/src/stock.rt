@@ -3,23 +3,7 @@
 use book::Book;
 use cells::{Cell, Prefix};
 use semantics::Refusal;
-
-/// Stores a tariff into table 0 or 1.
-fn tariff(
-    book: &mut Book<'_>,
-    table: usize,
-    digits: &[u8],
-    carrier: u32,
-    price: u32,
-) -> Result<(), Refusal> {
-    let prefix = Prefix::from_bytes(digits)?;
-    let row = [
-        Cell::Prefix(prefix),
-        Cell::Number(carrier),
-        Cell::Number(price),
-    ];
-    book.store(table, &row)
-}
+use tariffs::{last_digit, store};
 
 /// Stores an exchange into table 2.
 fn exchange(book: &mut Book<'_>, left: u32, right: u32, digits: &[u8]) -> Result<(), Refusal> {
@@ -55,15 +39,15 @@ fn offer(
 
 /// The rows of tables 0 and 1: three tariffs of different values, and six with repeats.
 fn tariffs(book: &mut Book<'_>) -> Result<(), Refusal> {
-    tariff(book, 0, b"47", 1, 3100)?;
-    tariff(book, 0, b"4711", 2, 2750)?;
-    tariff(book, 0, b"48", 1, 2900)?;
-    tariff(book, 1, b"47", 1, 3100)?;
-    tariff(book, 1, b"47", 1, 3100)?;
-    tariff(book, 1, b"4711", 2, 2750)?;
-    tariff(book, 1, b"", 0, 0)?;
-    tariff(book, 1, b"48", 1, 2900)?;
-    tariff(book, 1, b"4711", 1, 2900)
+    store(book, 0, b"47", 1, 3100)?;
+    store(book, 0, b"4711", 2, 2750)?;
+    store(book, 0, b"48", 1, 2900)?;
+    store(book, 1, b"47", 1, 3100)?;
+    store(book, 1, b"47", 1, 3100)?;
+    store(book, 1, b"4711", 2, 2750)?;
+    store(book, 1, b"", 0, 0)?;
+    store(book, 1, b"48", 1, 2900)?;
+    store(book, 1, b"4711", 1, 2900)
 }
 
 /// The rows of table 2. Their prefixes are different and have eight digits each.
@@ -97,15 +81,9 @@ pub(crate) fn short(book: &mut Book<'_>) -> Result<(), Refusal> {
     offers(book)
 }
 
-/// The last decimal digit of a number, as a byte.
-fn last_digit(number: u32) -> u8 {
-    let value = number % 10;
-    b'0'.wrapping_add((value & 0xff) as u8)
-}
-
 /// Fills the tall book: no row in table 0, one in table 1, and 256 rows in tables 2 and 3.
 pub(crate) fn tall(book: &mut Book<'_>) -> Result<(), Refusal> {
-    tariff(book, 1, b"4711", 5, 6)?;
+    store(book, 1, b"4711", 5, 6)?;
     for row in 0..256 {
         let hundreds = last_digit(row / 100);
         let tens = last_digit(row / 10);
