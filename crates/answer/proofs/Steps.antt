@@ -1,7 +1,9 @@
 -- The steps of a plan are those of its relations.
-use Rattle.std.proofs.Common.{◌≡◌, ℕ, ◌-◌, ◌<◌, true, ltb, List, length, get_or, Some, None, sym, ◌∙◌, subst, arith}
-use Rattle.std.proofs.lemmas.List.{get_or-map}
-use Rattle.std.proofs.lemmas.Bool.{lt-ltb}
+use Rattle.std.proofs.Common.{◌≡◌, ℕ, ◌-◌, ◌<◌, ◌≤◌, List, length, get_or, Some, None, sym, ap, ◌∙◌, subst, ⊎_elim, arith}
+use Rattle.std.proofs.lemmas.List.{length-map}
+use Rattle.std.proofs.lemmas.Option.{slice_get_cases, slice_get-map}
+use Rattle.std.specs.List.{slice_get}
+use Rattle.std.specs.Option.{option_map}
 use Rattle.semantics.specs.declared.kind.Column.{Column}
 use Rattle.semantics.specs.Conditions.{Condition}
 use Rattle.semantics.specs.Outcomes.{done}
@@ -10,36 +12,46 @@ use Rattle.semantics.specs.Records.{record_of, table_record, select_record, proj
 use Rattle.semantics.proofs.Outcomes.{refuse_not}
 use Rattle.query.specs.declared.plan.Position.{Position}
 use Rattle.query.specs.declared.plan.Plan.{Plan}
+use Rattle.query.specs.declared.plan.Planned.{Planned}
 use Rattle.query.specs.declared.record.Record.{Record}
-use Rattle.query.specs.Plans.{Plans, Parted, record_at, beginning, SaidIs}
+use Rattle.query.specs.Plans.{planned_in, record_count, positions_in, position_of, Plans, Parted, record_at, SaidIs}
 use Rattle.query.specs.Saying.{First, Says}
-use Rattle.query.proofs.Laying.{none}
+use Rattle.query.proofs.Checking.{said_here}
+use Rattle.query.proofs.Widths.{got_none}
 use Rattle.answer.specs.Steps.{relation}
 
 module _ (columns : List (List Column)) (bytes : List ℕ) (plan : Plan) (qs : List Tree) (plans : Plans columns bytes plan qs) (i : ℕ) (h : i < length qs) where
   -- what is read at the record's place
-  reads : (p : Position) → (rest : List ℕ) × (record_at plan bytes i ≡ done (record { says = record_of (relation qs i); rest = rest }))
-  reads p =
-      let n = plans.each i p none h in
-      let l : i < length plan.positions = omega (arith, plans.counted, plan.few, plan.placed) in
-      let at : beginning plan i ≡ (get_or plan.positions i p).at = get_or-map (λ (p : Position). p.at) plan.positions i p 0 l in
-      let t : ltb i plan.count ≡ true = lt-ltb i plan.count (omega (arith, plans.counted)) in
-      (n.rest, rw (t, at) n.says)
+  reads : (p : Planned) → Some p ≡ slice_get (planned_in plan) i → (rest : List ℕ) × (record_at plan bytes i ≡ done (record { says = record_of (relation qs i); rest = rest }))
+  reads p here = let n = plans.each i p here in (n.rest, said_here plan bytes i p here ∙ n.says)
+
+  kept : (p : Planned) × (Some p ≡ slice_get (planned_in plan) i)
+  kept = ⊎_elim
+      (λ (s : (p : Planned) × (i < record_count plan) × (slice_get (planned_in plan) i ≡ Some p) × (get_or (planned_in plan) i p ≡ p)). (s.0, sym s.2))
+      (λ (n : (record_count plan ≤ i) × (slice_get (planned_in plan) i ≡ None)). absurd (omega (arith, plans.counted, n.0)))
+      (slice_get_cases (planned_in plan) i).1
 
   -- the code finds the record
-  pub finds : (p : Position) → SaidIs i None (record_at plan bytes i) → ⊥
-  finds p s = refuse_not s.0 (record { says = record_of (relation qs i); rest = (reads p).0 }) (sym s.1 ∙ (reads p).1)
+  pub placed : None ≡ slice_get (positions_in plan) i → ⊥
+  placed e = let m = slice_get-map position_of (planned_in plan) i in let k = kept in omega (arith, got_none (positions_in plan) i e, length-map (planned_in plan) position_of, plans.counted)
 
-  pub says : (p : Position) (said : Record) → SaidIs i (Some said) (record_at plan bytes i) → Says i said (record_of (relation qs i))
-  says p said s =
-      let r = (reads p).1 in
+  pub finds : SaidIs i None (record_at plan bytes i) → ⊥
+  finds s = let r = reads kept.0 kept.1 in refuse_not s.0 (record { says = record_of (relation qs i); rest = r.0 }) (sym s.1 ∙ r.1)
+
+  pub says : (said : Record) → SaidIs i (Some said) (record_at plan bytes i) → Says i said (record_of (relation qs i))
+  says said s =
+      let k = reads kept.0 kept.1 in
+      let r = k.1 in
       let d = s.1 in
-      let e : s.0 ≡ record { says = record_of (relation qs i); rest = (reads p).0 } = cc in
+      let e : s.0 ≡ record { says = record_of (relation qs i); rest = k.0 } = cc in
       subst (λ (f : First). Says i said f.says) e s.2
 
   -- and the numbers of its parts
-  pub parts : (p : Position) → Parted qs i (get_or plan.positions i p).left (relation qs i)
-  parts p = (plans.each i p none h).parted
+  pub parts : (p : Position) → Some p ≡ slice_get (positions_in plan) i → Parted qs i p.left (relation qs i)
+  parts p here =
+      let m : Some p ≡ Some (position_of kept.0) = here ∙ slice_get-map position_of (planned_in plan) i ∙ sym (ap (option_map position_of) kept.1) in
+      let e : p ≡ position_of kept.0 = cc in
+      subst (λ (x : Position). Parted qs i x.left (relation qs i)) (sym e) (plans.each i kept.0 kept.1).parted
 
 -- a tree by what its record says and the numbers of its parts, which are lower
 module _ (qs : List Tree) (i left : ℕ) where

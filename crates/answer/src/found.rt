@@ -40,7 +40,7 @@ pub(crate) fn found(task: Task, work: &mut [Masked]) -> Result<Rows, Refusal>
     if let Some(number) = overfull(task, work, &mut memo) {
         return Err(Refusal::TooManyRows(number as u8));
     }
-    let count = task.plan.count;
+    let count = task.plan.count();
     if count == 0 {
         return Err(Refusal::NotOneRelation(0));
     }

@@ -37,7 +37,7 @@ fn respond(
     };
     let rows = found(task, work)?;
     let Some(size) = write_reply(work, rows.certain, rows.possible, reply) else {
-        return Err(Refusal::ReplyTooLong(plan.count as u8));
+        return Err(Refusal::ReplyTooLong(plan.count() as u8));
     };
     Ok(size)
 }

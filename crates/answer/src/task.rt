@@ -56,11 +56,8 @@ impl<'q> Task<'_, '_, 'q> {
         ensures lower { MayBeLower number result }
         ensures reads { (columns : List (List Column)) (qs : List Tree) → Plans columns self.entry.query.now self.entry.plan.now qs → number < length qs → StepIs qs number result }
     {
-        if number >= 15 {
-            return None;
-        }
+        let position = self.plan.position(number)?;
         let said = self.plan.said(self.query, number)?;
-        let position = self.plan.positions[number];
         let step = with_parts(said, position.left, number.saturating_sub(1));
         if !step.is_lower(number) {
             return None;

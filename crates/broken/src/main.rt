@@ -52,7 +52,7 @@ fn bytes(heap: Global, text: &str) -> Result<Vec<u8>, AllocError> {
 fn report(rt: &HostRuntime, name: &str, query: &[u8], book: &Book<'_>) -> anyhow::Result<()> {
     match check(query, book) {
         Ok(plan) => {
-            let count = plan.count;
+            let count = plan.count();
             println!(rt; "{name:<56} passes, {count} records")?;
         }
         Err(refusal) => {

@@ -15,12 +15,11 @@ pub(crate) fn refusal(rt: &HostRuntime, refusal: Refusal) -> anyhow::Result<()> 
 
 /// The count of a query's records, and the kinds of its rows' cells.
 pub(crate) fn result(rt: &HostRuntime, plan: &Plan) -> anyhow::Result<()> {
-    let count = plan.count;
-    if count == 0 {
+    let count = plan.count();
+    let Some(kinds) = plan.kinds_of(count.saturating_sub(1)) else {
         return Ok(());
-    }
+    };
     print!(rt; "A query of {count} records. The cells of its rows:")?;
-    let kinds = plan.kinds[count - 1];
     for kind in kinds.listed() {
         let name = words::kind(*kind);
         print!(rt; " {name}")?;

@@ -15,14 +15,13 @@ fn tree(
 ) -> anyhow::Result<()>
     requires { number + depth ≤ 15 }
 {
-    if number >= plan.count {
+    let Some(position) = plan.position(number) else {
         return Ok(());
-    }
+    };
     let Some(said) = plan.said(query, number) else {
         return Ok(());
     };
     show::record(rt, depth, number, said)?;
-    let position = plan.positions[number];
     let left = position.left;
     if left >= number {
         return Ok(());
@@ -39,8 +38,5 @@ fn tree(
 
 /// The whole query, from its last record.
 pub(crate) fn root(rt: &HostRuntime, query: &[u8], plan: &Plan) -> anyhow::Result<()> {
-    if plan.count == 0 {
-        return Ok(());
-    }
-    tree(rt, query, plan, plan.count - 1, 0)
+    tree(rt, query, plan, plan.count().saturating_sub(1), 0)
 }

@@ -1,6 +1,6 @@
 -- The loop of the check over the records of a query.
 use Rattle.std.proofs.Common.{◌≡◌, ℕ, suc, ◌+◌, ◌-◌, ◌<◌, ◌≤◌, Bool, true, false, ◌&&◌, ltb, leb, ◌⊎◌, List, [], ◌∷◌, map, length, get_or, take, drop, Some, None, Option, Result, sym, refl, ap, ◌∙◌, subst, inl, inr, ⊎_elim, arith, Bor}
-use Rattle.std.proofs.lemmas.List.{drop-drop, length-drop, drop_all, get_or-map, take_rest}
+use Rattle.std.proofs.lemmas.List.{drop-drop, length-drop, length-take, drop_all, get_or-map}
 use Rattle.std.proofs.lemmas.Bool.{and_from, and_left, and_right, le-leb, lt-leb, lt-ltb, le-ltb, leb-true}
 use Rattle.semantics.specs.declared.kind.Column.{Column}
 use Rattle.semantics.specs.declared.refusal.Refusal.{Refusal}
@@ -19,8 +19,11 @@ use Rattle.query.specs.declared.record.Record.TheVariants.{Table, Select, Projec
 use Rattle.query.specs.Plans.{laid, asked, lone}
 use Rattle.query.specs.Saying.{First, first_said, Says, Short}
 use Rattle.query.specs.declared.step.Step.{Step}
-use Rattle.query.specs.declared.plan.Position.{Position}
-use Rattle.query.specs.Plans.{StepIs, record_at}
+use Rattle.query.specs.declared.plan.Planned.{Planned}
+use Rattle.query.specs.Plans.{planned_in, record_count, StepIs, record_at}
+use Rattle.query.proofs.Widths.{got_none}
+use Rattle.std.specs.List.{slice_get}
+use Rattle.std.proofs.lemmas.Option.{slice_get_within, get_or_from_slice_get}
 use Rattle.query.proofs.Firsts.{first-less}
 use Rattle.semantics.specs.Conditions.{Condition}
 use Rattle.semantics.specs.Reading.{condition_form}
@@ -185,20 +188,22 @@ module _ (columns : List (List Column)) (n : ℕ) (stack : List Tree) (said : Re
       let k : Says n Difference says = subst (λ (s : Record). Says n s says) is h in
       subst (λ (s : records.Record). StepIs columns stack s r (asked columns n stack s)) (sym k) f
 
+pub few-records : (plan : Plan) → record_count plan ≤ 15
+few-records plan = omega (arith, length-take plan.records.count plan.records.places, plan.records.within)
+
 -- a record of a plan is read again
 module _ (plan : Plan) (bs : List ℕ) (i : ℕ) where
-  pub said-past : plan.count ≤ i → record_at plan bs i ≡ refuse (BrokenRecord i)
-  said-past h = let t : ltb i plan.count ≡ false = le-ltb _ _ h in rw t
+  pub said-past : None ≡ slice_get (planned_in plan) i → record_at plan bs i ≡ refuse (BrokenRecord i)
+  said-past h = let t : ltb i (record_count plan) ≡ false = le-ltb _ _ (got_none (planned_in plan) i h) in rw t
 
-  said_here : (p : Position) → i < plan.count → record_at plan bs i ≡ first_said i (drop (get_or plan.positions i p).at bs)
-  said_here p h =
-      let t : ltb i plan.count ≡ true = lt-ltb _ _ h in
-      let g = get_or-map (λ (p : Position). p.at) plan.positions i p 0 (omega (arith, plan.few, plan.placed)) in
-      ap (λ b. question b (BrokenRecord i) (first_said i (drop (get_or (map (λ (p : Position). p.at) plan.positions) i 0) bs))) t
-      ∙ ap (λ m. first_said i (drop m bs)) g
+  module _ (p : Planned) (here : Some p ≡ slice_get (planned_in plan) i) where
+    pub said_here : record_at plan bs i ≡ first_said i (drop p.at bs)
+    said_here =
+        let h = slice_get_within (planned_in plan) i p (sym here) in
+        let t : ltb i (record_count plan) ≡ true = lt-ltb _ _ h in
+        let g : get_or (map (λ (p : Planned). p.at) (planned_in plan)) i 0 ≡ p.at = get_or-map (λ (p : Planned). p.at) (planned_in plan) i p 0 h ∙ ap (λ (p : Planned). p.at) (get_or_from_slice_get (planned_in plan) i p p (sym here)) in
+        ap (λ b. question b (BrokenRecord i) (first_said i (drop (get_or (map (λ (p : Planned). p.at) (planned_in plan)) i 0) bs))) t
+        ∙ ap (λ m. first_said i (drop m bs)) g
 
-  pub said-beyond : (p : Position) → i < plan.count → length bs < (get_or plan.positions i p).at → record_at plan bs i ≡ refuse (BrokenRecord i)
-  said-beyond p h l = said_here p h ∙ ap (first_said i) (drop_all (get_or plan.positions i p).at bs (omega arith))
-
-  pub said_in : (p : Position) → i < plan.count → first_said i (take (length bs - (get_or plan.positions i p).at) (drop (get_or plan.positions i p).at bs)) ≡ record_at plan bs i
-  said_in p h = ap (first_said i) (take_rest bs (get_or plan.positions i p).at) ∙ sym (said_here p h)
+    pub said-beyond : length bs < p.at → record_at plan bs i ≡ refuse (BrokenRecord i)
+    said-beyond l = said_here ∙ ap (first_said i) (drop_all p.at bs (omega arith))

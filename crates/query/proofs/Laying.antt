@@ -1,8 +1,9 @@
 -- The relations of a stack in a plan, and what each record makes of them.
-use Rattle.std.proofs.Common.{◌≡◌, ℕ, ◌+◌, ◌-◌, ◌<◌, ◌≤◌, true, false, eqb, leb, ◌≢◌, List, [], ◌∷◌, ◌++◌, map, length, get_or, drop, set, Some, None, sym, refl, ap, ◌∙◌, subst, ⊎_elim, arith}
-use Rattle.std.proofs.lemmas.List.{append_assoc, length-append, length_push, get_or_push, get_or_append_left, get_or-append_right, get_or-set_same, get_or-set_other}
-use Rattle.std.proofs.lemmas.Bool.{le-leb, lt-leb, eq-eqb, ne_eqb, cases_lt}
-use Rattle.semantics.specs.declared.kind.Kind.TheVariants.{Number}
+use Rattle.std.proofs.Common.{◌≡◌, ℕ, zero, suc, ◌+◌, ◌-◌, ◌<◌, ◌≤◌, Bool, true, false, eqb, leb, ◌⊎◌, List, [], ◌∷◌, ◌++◌, map, length, get_or, drop, Some, None, sym, refl, ap, ◌∙◌, subst, inl, inr, ⊎_elim, arith}
+use Rattle.std.proofs.lemmas.List.{append_assoc, length-append, length_push, get_or_push, get_or_append_left, get_or-append_right}
+use Rattle.std.proofs.lemmas.Option.{slice_get_within}
+use Rattle.std.proofs.lemmas.Bool.{le-leb, lt-leb, eq-eqb, ne_eqb}
+use Rattle.std.specs.List.{slice_get}
 use Rattle.semantics.specs.declared.kind.Column.{Column}
 use Rattle.semantics.specs.declared.refusal.Refusal.TheVariants.{StackShort, NoSuchName, Unfit, ProductTooWide}
 use Rattle.semantics.specs.Conditions.{Condition, kind_at, named_comparison, fitting_comparison, every_comparison}
@@ -11,21 +12,14 @@ use Rattle.semantics.specs.Lists.{pairwise}
 use Rattle.semantics.specs.Outcomes.{Outcome, done, refuse}
 use Rattle.semantics.specs.Queries.{Tree, table, select, project, product, union, difference, nodes, kinds_of}
 use Rattle.semantics.specs.Records.{Record, record_of, select_record, project_record, product_record, union_record, difference_record}
-use Rattle.query.specs.declared.kinds.Kinds.{Kinds}
-use Rattle.query.specs.declared.plan.Position.{Position}
+use Rattle.query.specs.declared.plan.Planned.{Planned}
 use Rattle.query.specs.declared.plan.Plan.{Plan}
+use Rattle.query.specs.declared.step.Sides.{Sides}
 use Rattle.query.specs.declared.step.Step.{Step}
 use Rattle.query.specs.Kinds.{kinds_in, among}
-use Rattle.query.specs.Plans.{Parted, NodeOf, Plans, laid, asked, Grew, SidesIs, lone}
+use Rattle.query.specs.Plans.{Parted, planned_in, record_count, NodeOf, Plans, laid, asked, Grew, SidesOf, SidesAre, lone}
 use Rattle.query.specs.Saying.{first_said}
-use Rattle.query.proofs.Widths.{wide}
-
--- some kinds and some position
-pub none : Kinds
-none = record { list = Number ∷ (Number ∷ (Number ∷ (Number ∷ (Number ∷ (Number ∷ (Number ∷ (Number ∷ []))))))); width = 0; short = omega arith; eight = refl }
-
-pub nowhere : Position
-nowhere = record { at = 0; left = 0; start = 0; low = omega arith }
+use Rattle.query.proofs.Widths.{got_none}
 
 -- a tree is the last of its relations
 last-at : {X : Type 0} (xs : List X) (y d : X) → get_or (xs ++ y ∷ []) (length (xs ++ y ∷ []) - 1) d ≡ y
@@ -62,83 +56,98 @@ second_at x y below =
 
 module _ (columns : List (List Column)) (bytes : List ℕ) (plan : Plan) where
   -- the last relation
-  pub top-known : (x : Tree) (below : List Tree) → Plans columns bytes plan (laid (x ∷ below)) → (p : Position) (k : Kinds) → (kinds_in (get_or plan.kinds (plan.count - 1) k) ≡ kinds_of columns x) × ((get_or plan.positions (plan.count - 1) p).start ≡ length (laid below)) × (1 ≤ plan.count)
-  top-known x below plans p k =
+  top-known : (x : Tree) (below : List Tree) → Plans columns bytes plan (laid (x ∷ below)) → (p : Planned) → Some p ≡ slice_get (planned_in plan) (record_count plan - 1) → (kinds_in p.step.kinds ≡ kinds_of columns x) × (p.step.start ≡ length (laid below)) × (1 ≤ record_count plan)
+  top-known x below plans p h =
       let l = length-append (laid below) (nodes x) in
       let s = nodes-some x in
       let n = plans.counted in
-      let node = plans.each (plan.count - 1) p k (omega arith) in
-      let t = top-at x below plan.count n in
-      let b : (get_or plan.positions (plan.count - 1) p).start + length (nodes x) ≡ plan.count - 1 + 1 = subst (λ (q : Tree). (get_or plan.positions (plan.count - 1) p).start + length (nodes q) ≡ plan.count - 1 + 1) t node.begins in
+      let node = plans.each (record_count plan - 1) p h in
+      let t = top-at x below (record_count plan) n in
+      let b : p.step.start + length (nodes x) ≡ record_count plan - 1 + 1 = subst (λ (q : Tree). p.step.start + length (nodes q) ≡ record_count plan - 1 + 1) t node.begins in
       (node.known ∙ ap (kinds_of columns) t, omega (arith, b, l, n, s), omega (arith, l, n, s))
 
   -- the one below it
-  pub second-known : (x y : Tree) (below : List Tree) → Plans columns bytes plan (laid (x ∷ (y ∷ below))) → (left : ℕ) → left ≡ length (laid (y ∷ below)) - 1 → (p : Position) (k : Kinds) → (kinds_in (get_or plan.kinds left k) ≡ kinds_of columns y) × ((get_or plan.positions left p).start ≡ length (laid below)) × (left < plan.count)
-  second-known x y below plans left is p k =
-      let l = length-append (laid (y ∷ below)) (nodes x) in
+  second-known : (x y : Tree) (below : List Tree) → Plans columns bytes plan (laid (x ∷ (y ∷ below))) → (left : ℕ) → left ≡ length (laid (y ∷ below)) - 1 → (p : Planned) → Some p ≡ slice_get (planned_in plan) left → (kinds_in p.step.kinds ≡ kinds_of columns y) × (p.step.start ≡ length (laid below))
+  second-known x y below plans left is p h =
       let m = length-append (laid below) (nodes y) in
-      let s = nodes-some x in
       let r = nodes-some y in
-      let n = plans.counted in
-      let node = plans.each left p k (omega arith) in
+      let node = plans.each left p h in
       let t : get_or (laid (x ∷ (y ∷ below))) left (table 0) ≡ y = ap (λ i. get_or (laid (x ∷ (y ∷ below))) i (table 0)) is ∙ second_at x y below in
-      let b : (get_or plan.positions left p).start + length (nodes y) ≡ left + 1 = subst (λ (q : Tree). (get_or plan.positions left p).start + length (nodes q) ≡ left + 1) t node.begins in
-      (node.known ∙ ap (kinds_of columns) t, omega (arith, b, m, is, r), omega (arith, l, m, n, s, r, is))
+      let b : p.step.start + length (nodes y) ≡ left + 1 = subst (λ (q : Tree). p.step.start + length (nodes q) ≡ left + 1) t node.begins in
+      (node.known ∙ ap (kinds_of columns) t, omega (arith, b, m, is, r))
 
-  some-count : (x : Tree) (below : List Tree) → Plans columns bytes plan (laid (x ∷ below)) → 1 ≤ plan.count
+  some-count : (x : Tree) (below : List Tree) → Plans columns bytes plan (laid (x ∷ below)) → 1 ≤ record_count plan
   some-count x below plans = omega (arith, plans.counted, length-append (laid below) (nodes x), nodes-some x)
 
-  -- The left one of two.
-  pub left-none : (stack : List Tree) → Plans columns bytes plan (laid stack) → plan.count ≡ 0 → SidesIs stack None
-  left-none [] plans z = refl
-  left-none (x ∷ []) plans z = refl
-  left-none (x ∷ (y ∷ below)) plans z = absurd (omega (arith, some-count x (y ∷ below) plans))
+  no_last : (x : Tree) (below : List Tree) → Plans columns bytes plan (laid (x ∷ below)) → None ≡ slice_get (planned_in plan) (record_count plan - 1) → ⊥
+  no_last x below plans h = omega (arith, got_none (planned_in plan) (record_count plan - 1) h, some-count x below plans)
 
-  pub left-single : (stack : List Tree) (p : Position) → Plans columns bytes plan (laid stack) → (get_or plan.positions (plan.count - 1) p).start ≡ 0 → SidesIs stack None
-  left-single [] p plans z = refl
-  left-single (x ∷ []) p plans z = refl
-  left-single (x ∷ (y ∷ below)) p plans z = absurd (let t = top-known x (y ∷ below) plans p none in omega (arith, t.1, z, length-append (laid below) (nodes y), nodes-some y))
+  no-record : Plans columns bytes plan [] → (p : Planned) → Some p ≡ slice_get (planned_in plan) (record_count plan - 1) → ⊥
+  no-record plans p h = omega (arith, slice_get_within (planned_in plan) (record_count plan - 1) p (sym h), plans.counted)
 
-  pub left-some : (stack : List Tree) (p : Position) → Plans columns bytes plan (laid stack) → (plan.count ≡ 0 → ⊥) → ((get_or plan.positions (plan.count - 1) p).start ≡ 0 → ⊥) → SidesIs stack (Some ((get_or plan.positions (plan.count - 1) p).start - 1))
-  left-some [] p plans n z = absurd (n plans.counted)
-  left-some (x ∷ []) p plans n z = absurd (z (top-known x [] plans p none).1)
-  left-some (x ∷ (y ∷ below)) p plans n z = let t = top-known x (y ∷ below) plans p none in ap (λ m. Some (m - 1)) t.1
+  -- The last two relations.
+  pub sides_none : (stack : List Tree) → Plans columns bytes plan (laid stack) → None ≡ slice_get (planned_in plan) (record_count plan - 1) → SidesAre columns stack None
+  sides_none [] plans h = refl
+  sides_none (x ∷ []) plans h = refl
+  sides_none (x ∷ (y ∷ below)) plans h = no_last x (y ∷ below) plans h
+
+  pub sides_single : (stack : List Tree) (r : Planned) → Plans columns bytes plan (laid stack) → Some r ≡ slice_get (planned_in plan) (record_count plan - 1) → r.step.start < 1 → SidesAre columns stack None
+  sides_single [] r plans h z = refl
+  sides_single (x ∷ []) r plans h z = refl
+  sides_single (x ∷ (y ∷ below)) r plans h z = let t = top-known x (y ∷ below) plans r h in omega (arith, t.1, z, length-append (laid below) (nodes y), nodes-some y)
+
+  pub sides_past : (stack : List Tree) (r : Planned) (number : ℕ) → Plans columns bytes plan (laid stack) → Some r ≡ slice_get (planned_in plan) (record_count plan - 1) → number ≡ r.step.start - 1 → None ≡ slice_get (planned_in plan) number → SidesAre columns stack None
+  sides_past [] r number plans h e g = refl
+  sides_past (x ∷ []) r number plans h e g = refl
+  sides_past (x ∷ (y ∷ below)) r number plans h e g =
+      let t = top-known x (y ∷ below) plans r h in
+      let n = got_none (planned_in plan) number g in
+      omega (arith, t.1, e, n, plans.counted, length-append (laid (y ∷ below)) (nodes x), length-append (laid below) (nodes y), nodes-some x, nodes-some y)
+
+  pub sides_two : (stack : List Tree) (l r : Planned) (number : ℕ) → Plans columns bytes plan (laid stack) → Some r ≡ slice_get (planned_in plan) (record_count plan - 1) → 1 ≤ r.step.start → number ≡ r.step.start - 1 → Some l ≡ slice_get (planned_in plan) number → SidesAre columns stack (Some (record { number = number; left = l.step; right = r.step }))
+  sides_two [] l r number plans h s e g = absurd (no-record plans r h)
+  sides_two (x ∷ []) l r number plans h s e g = absurd (let t = top-known x [] plans r h in omega (arith, t.1, s))
+  sides_two (x ∷ (y ∷ below)) l r number plans h s e g =
+      let t = top-known x (y ∷ below) plans r h in
+      let is : number ≡ length (laid (y ∷ below)) - 1 = omega (arith, t.1, e) in
+      let u = second-known x y below plans number is l g in
+      record { numbered = is; begins = u.1; known_left = u.0; known_right = t.0 }
 
   -- Whether one is left.
-  pub lone-none : (stack : List Tree) → Plans columns bytes plan (laid stack) → plan.count ≡ 0 → false ≡ lone stack
-  lone-none [] plans z = refl
-  lone-none (x ∷ below) plans z = absurd (omega (arith, some-count x below plans))
+  pub lone_none : (stack : List Tree) → Plans columns bytes plan (laid stack) → None ≡ slice_get (planned_in plan) (record_count plan - 1) → false ≡ lone stack
+  lone_none [] plans h = refl
+  lone_none (x ∷ below) plans h = absurd (no_last x below plans h)
 
-  pub lone_is : (stack : List Tree) (p : Position) → Plans columns bytes plan (laid stack) → (plan.count ≡ 0 → ⊥) → eqb (get_or plan.positions (plan.count - 1) p).start 0 ≡ lone stack
-  lone_is [] p plans n = absurd (n plans.counted)
-  lone_is (x ∷ []) p plans n = eq-eqb _ 0 (top-known x [] plans p none).1
-  lone_is (x ∷ (y ∷ below)) p plans n = ne_eqb _ 0 (λ z. let t = top-known x (y ∷ below) plans p none in omega (arith, t.1, z, length-append (laid below) (nodes y), nodes-some y))
+  pub lone_is : (stack : List Tree) (r : Planned) → Plans columns bytes plan (laid stack) → Some r ≡ slice_get (planned_in plan) (record_count plan - 1) → eqb r.step.start 0 ≡ lone stack
+  lone_is [] r plans h = absurd (no-record plans r h)
+  lone_is (x ∷ []) r plans h = eq-eqb _ 0 (top-known x [] plans r h).1
+  lone_is (x ∷ (y ∷ below)) r plans h = ne_eqb _ 0 (λ z. let t = top-known x (y ∷ below) plans r h in omega (arith, t.1, z, length-append (laid below) (nodes y), nodes-some y))
 
   -- A selection.
   module _ (c : Condition) where
-    pub select_short : (stack : List Tree) → Plans columns bytes plan (laid stack) → plan.count ≡ 0 → asked columns plan.count stack (select_record c) ≡ refuse (StackShort plan.count)
-    select_short [] plans z = refl
-    select_short (x ∷ below) plans z = absurd (omega (arith, some-count x below plans))
+    pub select_short : (stack : List Tree) → Plans columns bytes plan (laid stack) → None ≡ slice_get (planned_in plan) (record_count plan - 1) → asked columns (record_count plan) stack (select_record c) ≡ refuse (StackShort (record_count plan))
+    select_short [] plans h = refl
+    select_short (x ∷ below) plans h = absurd (no_last x below plans h)
 
-    pub select_unnamed : (stack : List Tree) (k : Kinds) (p : Position) → Plans columns bytes plan (laid stack) → (plan.count ≡ 0 → ⊥) → false ≡ every_comparison (named_comparison (kinds_in (get_or plan.kinds (plan.count - 1) k))) c → asked columns plan.count stack (select_record c) ≡ refuse (NoSuchName plan.count)
-    select_unnamed [] k p plans n e = absurd (n plans.counted)
-    select_unnamed (x ∷ below) k p plans n e =
-        let t = top-known x below plans p k in
+    pub select_unnamed : (stack : List Tree) (p : Planned) → Plans columns bytes plan (laid stack) → Some p ≡ slice_get (planned_in plan) (record_count plan - 1) → false ≡ every_comparison (named_comparison (kinds_in p.step.kinds)) c → asked columns (record_count plan) stack (select_record c) ≡ refuse (NoSuchName (record_count plan))
+    select_unnamed [] p plans h e = absurd (no-record plans p h)
+    select_unnamed (x ∷ below) p plans h e =
+        let t = top-known x below plans p h in
         let a : every_comparison (named_comparison (kinds_of columns x)) c ≡ false = sym (e ∙ ap (λ ks. every_comparison (named_comparison ks) c) t.0) in
         rw a
 
-    pub select_unfit : (stack : List Tree) (k : Kinds) (p : Position) → Plans columns bytes plan (laid stack) → (plan.count ≡ 0 → ⊥) → true ≡ every_comparison (named_comparison (kinds_in (get_or plan.kinds (plan.count - 1) k))) c → false ≡ every_comparison (fitting_comparison (kinds_in (get_or plan.kinds (plan.count - 1) k))) c → asked columns plan.count stack (select_record c) ≡ refuse (Unfit plan.count)
-    select_unfit [] k p plans n e f = absurd (n plans.counted)
-    select_unfit (x ∷ below) k p plans n e f =
-        let t = top-known x below plans p k in
+    pub select_unfit : (stack : List Tree) (p : Planned) → Plans columns bytes plan (laid stack) → Some p ≡ slice_get (planned_in plan) (record_count plan - 1) → true ≡ every_comparison (named_comparison (kinds_in p.step.kinds)) c → false ≡ every_comparison (fitting_comparison (kinds_in p.step.kinds)) c → asked columns (record_count plan) stack (select_record c) ≡ refuse (Unfit (record_count plan))
+    select_unfit [] p plans h e f = absurd (no-record plans p h)
+    select_unfit (x ∷ below) p plans h e f =
+        let t = top-known x below plans p h in
         let a : every_comparison (named_comparison (kinds_of columns x)) c ≡ true = sym (e ∙ ap (λ ks. every_comparison (named_comparison ks) c) t.0) in
         let b : every_comparison (fitting_comparison (kinds_of columns x)) c ≡ false = sym (f ∙ ap (λ ks. every_comparison (fitting_comparison ks) c) t.0) in
         rw (a, b)
 
-    pub select_grew : (stack : List Tree) (k : Kinds) (p : Position) (step : Step) → Plans columns bytes plan (laid stack) → (plan.count ≡ 0 → ⊥) → true ≡ every_comparison (named_comparison (kinds_in (get_or plan.kinds (plan.count - 1) k))) c → true ≡ every_comparison (fitting_comparison (kinds_in (get_or plan.kinds (plan.count - 1) k))) c → step.left ≡ plan.count - 1 → step.start ≡ (get_or plan.positions (plan.count - 1) p).start → step.kinds ≡ get_or plan.kinds (plan.count - 1) k → Grew columns stack step (select_record c) (asked columns plan.count stack (select_record c))
-    select_grew [] k p step plans n e f l s d = absurd (n plans.counted)
-    select_grew (x ∷ below) k p step plans n e f l s d =
-        let t = top-known x below plans p k in
+    pub select_grew : (stack : List Tree) (p : Planned) (step : Step) → Plans columns bytes plan (laid stack) → Some p ≡ slice_get (planned_in plan) (record_count plan - 1) → true ≡ every_comparison (named_comparison (kinds_in p.step.kinds)) c → true ≡ every_comparison (fitting_comparison (kinds_in p.step.kinds)) c → step.left ≡ record_count plan - 1 → step.start ≡ p.step.start → step.kinds ≡ p.step.kinds → Grew columns stack step (select_record c) (asked columns (record_count plan) stack (select_record c))
+    select_grew [] p step plans h e f l s d = absurd (no-record plans p h)
+    select_grew (x ∷ below) p step plans h e f l s d =
+        let t = top-known x below plans p h in
         let a : every_comparison (named_comparison (kinds_of columns x)) c ≡ true = sym (e ∙ ap (λ ks. every_comparison (named_comparison ks) c) t.0) in
         let b : every_comparison (fitting_comparison (kinds_of columns x)) c ≡ true = sym (f ∙ ap (λ ks. every_comparison (fitting_comparison ks) c) t.0) in
         record {
@@ -147,28 +156,28 @@ module _ (columns : List (List Column)) (bytes : List ℕ) (plan : Plan) where
           is = rw (a, b);
           adds = sym (append_assoc (laid below) (nodes x) (select c x ∷ []));
           said = refl;
-          parted = (omega (arith, l, plans.counted, t.2), sym (ap (λ i. get_or (laid (x ∷ below)) i (table 0)) l ∙ top-at x below plan.count plans.counted));
+          parted = (omega (arith, l, plans.counted, t.2), sym (ap (λ i. get_or (laid (x ∷ below)) i (table 0)) l ∙ top-at x below (record_count plan) plans.counted));
           begins = omega (arith, s, t.1, length-append (laid below) (nodes x), length_push (nodes x) (select c x));
           known = ap kinds_in d ∙ t.0;
         }
 
   -- A projection.
   module _ (cs : List ℕ) where
-    pub project-short : (stack : List Tree) → Plans columns bytes plan (laid stack) → plan.count ≡ 0 → asked columns plan.count stack (project_record cs) ≡ refuse (StackShort plan.count)
-    project-short [] plans z = refl
-    project-short (x ∷ below) plans z = absurd (omega (arith, some-count x below plans))
+    pub project_short : (stack : List Tree) → Plans columns bytes plan (laid stack) → None ≡ slice_get (planned_in plan) (record_count plan - 1) → asked columns (record_count plan) stack (project_record cs) ≡ refuse (StackShort (record_count plan))
+    project_short [] plans h = refl
+    project_short (x ∷ below) plans h = absurd (no_last x below plans h)
 
-    pub project_unnamed : (stack : List Tree) (k : Kinds) (p : Position) → Plans columns bytes plan (laid stack) → (plan.count ≡ 0 → ⊥) → among (kinds_in (get_or plan.kinds (plan.count - 1) k)) cs ≡ false → asked columns plan.count stack (project_record cs) ≡ refuse (NoSuchName plan.count)
-    project_unnamed [] k p plans n e = absurd (n plans.counted)
-    project_unnamed (x ∷ below) k p plans n e =
-        let t = top-known x below plans p k in
+    pub project_unnamed : (stack : List Tree) (p : Planned) → Plans columns bytes plan (laid stack) → Some p ≡ slice_get (planned_in plan) (record_count plan - 1) → among (kinds_in p.step.kinds) cs ≡ false → asked columns (record_count plan) stack (project_record cs) ≡ refuse (NoSuchName (record_count plan))
+    project_unnamed [] p plans h e = absurd (no-record plans p h)
+    project_unnamed (x ∷ below) p plans h e =
+        let t = top-known x below plans p h in
         let a : among (kinds_of columns x) cs ≡ false = sym (ap (λ ks. among ks cs) t.0) ∙ e in
         rw a
 
-    pub project_grew : (stack : List Tree) (k : Kinds) (p : Position) (step : Step) → Plans columns bytes plan (laid stack) → (plan.count ≡ 0 → ⊥) → among (kinds_in (get_or plan.kinds (plan.count - 1) k)) cs ≡ true → step.left ≡ plan.count - 1 → step.start ≡ (get_or plan.positions (plan.count - 1) p).start → kinds_in step.kinds ≡ map (kind_at (kinds_in (get_or plan.kinds (plan.count - 1) k))) cs → Grew columns stack step (project_record cs) (asked columns plan.count stack (project_record cs))
-    project_grew [] k p step plans n e l s d = absurd (n plans.counted)
-    project_grew (x ∷ below) k p step plans n e l s d =
-        let t = top-known x below plans p k in
+    pub project_grew : (stack : List Tree) (p : Planned) (step : Step) → Plans columns bytes plan (laid stack) → Some p ≡ slice_get (planned_in plan) (record_count plan - 1) → among (kinds_in p.step.kinds) cs ≡ true → step.left ≡ record_count plan - 1 → step.start ≡ p.step.start → kinds_in step.kinds ≡ map (kind_at (kinds_in p.step.kinds)) cs → Grew columns stack step (project_record cs) (asked columns (record_count plan) stack (project_record cs))
+    project_grew [] p step plans h e l s d = absurd (no-record plans p h)
+    project_grew (x ∷ below) p step plans h e l s d =
+        let t = top-known x below plans p h in
         let a : among (kinds_of columns x) cs ≡ true = sym (ap (λ ks. among ks cs) t.0) ∙ e in
         record {
           top = project cs x;
@@ -176,137 +185,130 @@ module _ (columns : List (List Column)) (bytes : List ℕ) (plan : Plan) where
           is = rw a;
           adds = sym (append_assoc (laid below) (nodes x) (project cs x ∷ []));
           said = refl;
-          parted = (omega (arith, l, plans.counted, t.2), sym (ap (λ i. get_or (laid (x ∷ below)) i (table 0)) l ∙ top-at x below plan.count plans.counted));
+          parted = (omega (arith, l, plans.counted, t.2), sym (ap (λ i. get_or (laid (x ∷ below)) i (table 0)) l ∙ top-at x below (record_count plan) plans.counted));
           begins = omega (arith, s, t.1, length-append (laid below) (nodes x), length_push (nodes x) (project cs x));
           known = d ∙ ap (λ ks. map (kind_at ks) cs) t.0;
         }
 
-  -- two relations under one
-  two-laid : (x y : Tree) (below : List Tree) (s : Tree) → laid below ++ ((nodes y ++ nodes x) ++ s ∷ []) ≡ ((laid below ++ nodes y) ++ nodes x) ++ s ∷ []
-  two-laid x y below s = simp append_assoc
+-- two relations under one
+two-laid : (x y : Tree) (below : List Tree) (s : Tree) → laid below ++ ((nodes y ++ nodes x) ++ s ∷ []) ≡ ((laid below ++ nodes y) ++ nodes x) ++ s ∷ []
+two-laid x y below s = simp append_assoc
 
-  two-parted : (x y : Tree) (below : List Tree) (left : ℕ) → Plans columns bytes plan (laid (x ∷ (y ∷ below))) → left ≡ length (laid (y ∷ below)) - 1 → (left < length (laid (x ∷ (y ∷ below)))) × (y ≡ get_or (laid (x ∷ (y ∷ below))) left (table 0)) × (1 ≤ length (laid (x ∷ (y ∷ below)))) × (x ≡ get_or (laid (x ∷ (y ∷ below))) (length (laid (x ∷ (y ∷ below))) - 1) (table 0))
-  two-parted x y below left plans is =
-      let l = length-append (laid (y ∷ below)) (nodes x) in
-      let m = length-append (laid below) (nodes y) in
-      let s = nodes-some x in
-      let r = nodes-some y in (
-        omega arith,
-        sym (ap (λ i. get_or (laid (x ∷ (y ∷ below))) i (table 0)) is ∙ second_at x y below),
-        omega arith,
-        sym (top-at x (y ∷ below) (length (laid (x ∷ (y ∷ below)))) refl),
-      )
+two-parted : (x y : Tree) (below : List Tree) (left : ℕ) → left ≡ length (laid (y ∷ below)) - 1 → (left < length (laid (x ∷ (y ∷ below)))) × (y ≡ get_or (laid (x ∷ (y ∷ below))) left (table 0)) × (1 ≤ length (laid (x ∷ (y ∷ below)))) × (x ≡ get_or (laid (x ∷ (y ∷ below))) (length (laid (x ∷ (y ∷ below))) - 1) (table 0))
+two-parted x y below left is =
+    let l = length-append (laid (y ∷ below)) (nodes x) in
+    let m = length-append (laid below) (nodes y) in
+    let s = nodes-some x in
+    let r = nodes-some y in (
+      omega arith,
+      sym (ap (λ i. get_or (laid (x ∷ (y ∷ below))) i (table 0)) is ∙ second_at x y below),
+      omega arith,
+      sym (top-at x (y ∷ below) (length (laid (x ∷ (y ∷ below)))) refl),
+    )
 
-  two-begins : (x y : Tree) (below : List Tree) (s : Tree) (start : ℕ) → nodes s ≡ (nodes y ++ nodes x) ++ s ∷ [] → start ≡ length (laid below) → start + length (nodes s) ≡ length (laid (x ∷ (y ∷ below))) + 1
-  two-begins x y below s start n e =
-      omega (arith, ap length n, length_push (nodes y ++ nodes x) s, length-append (nodes y) (nodes x), length-append (laid (y ∷ below)) (nodes x), length-append (laid below) (nodes y))
+two-begins : (x y : Tree) (below : List Tree) (s : Tree) (start : ℕ) → nodes s ≡ (nodes y ++ nodes x) ++ s ∷ [] → start ≡ length (laid below) → start + length (nodes s) ≡ length (laid (x ∷ (y ∷ below))) + 1
+two-begins x y below s start n e =
+    omega (arith, ap length n, length_push (nodes y ++ nodes x) s, length-append (nodes y) (nodes x), length-append (laid (y ∷ below)) (nodes x), length-append (laid below) (nodes y))
 
+module _ (columns : List (List Column)) (n : ℕ) where
   -- A product.
-  pub product-short : (stack : List Tree) → SidesIs stack None → asked columns plan.count stack product_record ≡ refuse (StackShort plan.count)
-  product-short [] s = refl
-  product-short (x ∷ []) s = refl
-  product-short (x ∷ (y ∷ below)) s = let z : ◌≡◌ {A = ℕ} 0 1 = cc in absurd (omega arith)
+  pub product_short : (stack : List Tree) → SidesAre columns stack None → asked columns n stack product_record ≡ refuse (StackShort n)
+  product_short [] s = refl
+  product_short (x ∷ []) s = refl
+  product_short (x ∷ (y ∷ below)) s = absurd s
 
-  pub product_wide : (stack : List Tree) (left : ℕ) (k l : Kinds) → Plans columns bytes plan (laid stack) → SidesIs stack (Some left) → 8 < (get_or plan.kinds left k).width + (get_or plan.kinds (plan.count - 1) l).width → asked columns plan.count stack product_record ≡ refuse (ProductTooWide plan.count)
-  product_wide [] left k l plans s h = let z : ◌≡◌ {A = ℕ} 0 1 = cc in absurd (omega arith)
-  product_wide (x ∷ []) left k l plans s h = let z : ◌≡◌ {A = ℕ} 0 1 = cc in absurd (omega arith)
-  product_wide (x ∷ (y ∷ below)) left k l plans s h =
-      let is : left ≡ length (laid (y ∷ below)) - 1 = cc in
-      let t = top-known x (y ∷ below) plans nowhere l in
-      let u = second-known x y below plans left is nowhere k in
-      let a : leb (length (kinds_of columns y) + length (kinds_of columns x)) 8 ≡ false = lt-leb _ _ (omega (arith, ap length t.0, ap length u.0, wide (get_or plan.kinds left k), wide (get_or plan.kinds (plan.count - 1) l))) in
-      rw a
+  pub union_short : (stack : List Tree) → SidesAre columns stack None → asked columns n stack union_record ≡ refuse (StackShort n)
+  union_short [] s = refl
+  union_short (x ∷ []) s = refl
+  union_short (x ∷ (y ∷ below)) s = absurd s
 
-  pub product_grew : (stack : List Tree) (left : ℕ) (k l : Kinds) (p : Position) (step : Step) → Plans columns bytes plan (laid stack) → SidesIs stack (Some left) → (get_or plan.kinds left k).width + (get_or plan.kinds (plan.count - 1) l).width ≤ 8 → step.left ≡ left → step.start ≡ (get_or plan.positions left p).start → kinds_in step.kinds ≡ kinds_in (get_or plan.kinds left k) ++ kinds_in (get_or plan.kinds (plan.count - 1) l) → Grew columns stack step product_record (asked columns plan.count stack product_record)
-  product_grew [] left k l p step plans s h f g d = let z : ◌≡◌ {A = ℕ} 0 1 = cc in absurd (omega arith)
-  product_grew (x ∷ []) left k l p step plans s h f g d = let z : ◌≡◌ {A = ℕ} 0 1 = cc in absurd (omega arith)
-  product_grew (x ∷ (y ∷ below)) left k l p step plans s h f g d =
-      let is : left ≡ length (laid (y ∷ below)) - 1 = cc in
-      let t = top-known x (y ∷ below) plans nowhere l in
-      let u = second-known x y below plans left is p k in
-      let a : leb (length (kinds_of columns y) + length (kinds_of columns x)) 8 ≡ true = le-leb _ _ (omega (arith, ap length t.0, ap length u.0, wide (get_or plan.kinds left k), wide (get_or plan.kinds (plan.count - 1) l))) in
-      record {
-        top = product y x;
-        below = below;
-        is = rw a;
-        adds = two-laid x y below (product y x);
-        said = refl;
-        parted = two-parted x y below step.left plans (f ∙ is);
-        begins = two-begins x y below (product y x) step.start refl (g ∙ u.1);
-        known = d ∙ ap (λ ks. ks ++ kinds_in (get_or plan.kinds (plan.count - 1) l)) u.0 ∙ ap (λ ks. kinds_of columns y ++ ks) t.0;
-      }
+  pub difference_short : (stack : List Tree) → SidesAre columns stack None → asked columns n stack difference_record ≡ refuse (StackShort n)
+  difference_short [] s = refl
+  difference_short (x ∷ []) s = refl
+  difference_short (x ∷ (y ∷ below)) s = absurd s
 
-  -- A union and a difference.
+  -- where two relations are on top
+  module _ (s : Sides) where
+    no-sides : Some s ≡ None → ⊥
+    no-sides h = let z : ◌≡◌ {A = ℕ} 0 1 = cc in omega arith
 
-  pub union-short : (stack : List Tree) → SidesIs stack None → asked columns plan.count stack union_record ≡ refuse (StackShort plan.count)
-  union-short [] s = refl
-  union-short (x ∷ []) s = refl
-  union-short (x ∷ (y ∷ below)) s = let z : ◌≡◌ {A = ℕ} 0 1 = cc in absurd (omega arith)
+    pub product_wide : (stack : List Tree) → SidesAre columns stack (Some s) → 8 < length (kinds_in s.left.kinds) + length (kinds_in s.right.kinds) → asked columns n stack product_record ≡ refuse (ProductTooWide n)
+    product_wide [] t h = absurd (no-sides t)
+    product_wide (x ∷ []) t h = absurd (no-sides t)
+    product_wide (x ∷ (y ∷ below)) t h =
+        let a : leb (length (kinds_of columns y) + length (kinds_of columns x)) 8 ≡ false = lt-leb _ _ (omega (arith, ap length t.known_left, ap length t.known_right)) in
+        rw a
 
-  pub union_unfit : (stack : List Tree) (left : ℕ) (k l : Kinds) → Plans columns bytes plan (laid stack) → SidesIs stack (Some left) → false ≡ pairwise same_kind (kinds_in (get_or plan.kinds left k)) (kinds_in (get_or plan.kinds (plan.count - 1) l)) → asked columns plan.count stack union_record ≡ refuse (Unfit plan.count)
-  union_unfit [] left k l plans s h = let z : ◌≡◌ {A = ℕ} 0 1 = cc in absurd (omega arith)
-  union_unfit (x ∷ []) left k l plans s h = let z : ◌≡◌ {A = ℕ} 0 1 = cc in absurd (omega arith)
-  union_unfit (x ∷ (y ∷ below)) left k l plans s h =
-      let is : left ≡ length (laid (y ∷ below)) - 1 = cc in
-      let t = top-known x (y ∷ below) plans nowhere l in
-      let u = second-known x y below plans left is nowhere k in
-      let a : pairwise same_kind (kinds_of columns y) (kinds_of columns x) ≡ false = sym (h ∙ ap (λ ks. pairwise same_kind ks (kinds_in (get_or plan.kinds (plan.count - 1) l))) u.0 ∙ ap (λ ks. pairwise same_kind (kinds_of columns y) ks) t.0) in
-      rw a
+    pub product_grew : (stack : List Tree) (step : Step) → SidesAre columns stack (Some s) → length (kinds_in s.left.kinds) + length (kinds_in s.right.kinds) ≤ 8 → step.left ≡ s.number → step.start ≡ s.left.start → kinds_in step.kinds ≡ kinds_in s.left.kinds ++ kinds_in s.right.kinds → Grew columns stack step product_record (asked columns n stack product_record)
+    product_grew [] step t h f g d = absurd (no-sides t)
+    product_grew (x ∷ []) step t h f g d = absurd (no-sides t)
+    product_grew (x ∷ (y ∷ below)) step t h f g d =
+        let a : leb (length (kinds_of columns y) + length (kinds_of columns x)) 8 ≡ true = le-leb _ _ (omega (arith, ap length t.known_left, ap length t.known_right)) in
+        record {
+          top = product y x;
+          below = below;
+          is = rw a;
+          adds = two-laid x y below (product y x);
+          said = refl;
+          parted = two-parted x y below step.left (f ∙ t.numbered);
+          begins = two-begins x y below (product y x) step.start refl (g ∙ t.begins);
+          known = d ∙ ap (λ ks. ks ++ kinds_in s.right.kinds) t.known_left ∙ ap (λ ks. kinds_of columns y ++ ks) t.known_right;
+        }
 
-  pub union_grew : (stack : List Tree) (left : ℕ) (k l : Kinds) (p : Position) (step : Step) → Plans columns bytes plan (laid stack) → SidesIs stack (Some left) → true ≡ pairwise same_kind (kinds_in (get_or plan.kinds left k)) (kinds_in (get_or plan.kinds (plan.count - 1) l)) → step.left ≡ left → step.start ≡ (get_or plan.positions left p).start → step.kinds ≡ get_or plan.kinds left k → Grew columns stack step union_record (asked columns plan.count stack union_record)
-  union_grew [] left k l p step plans s h f g d = let z : ◌≡◌ {A = ℕ} 0 1 = cc in absurd (omega arith)
-  union_grew (x ∷ []) left k l p step plans s h f g d = let z : ◌≡◌ {A = ℕ} 0 1 = cc in absurd (omega arith)
-  union_grew (x ∷ (y ∷ below)) left k l p step plans s h f g d =
-      let is : left ≡ length (laid (y ∷ below)) - 1 = cc in
-      let t = top-known x (y ∷ below) plans nowhere l in
-      let u = second-known x y below plans left is p k in
-      let a : pairwise same_kind (kinds_of columns y) (kinds_of columns x) ≡ true = sym (h ∙ ap (λ ks. pairwise same_kind ks (kinds_in (get_or plan.kinds (plan.count - 1) l))) u.0 ∙ ap (λ ks. pairwise same_kind (kinds_of columns y) ks) t.0) in
-      record {
-        top = union y x;
-        below = below;
-        is = rw a;
-        adds = two-laid x y below (union y x);
-        said = refl;
-        parted = two-parted x y below step.left plans (f ∙ is);
-        begins = two-begins x y below (union y x) step.start refl (g ∙ u.1);
-        known = ap kinds_in d ∙ u.0;
-      }
+    -- A union and a difference.
+    alike : (x y : Tree) (below : List Tree) (b : Bool) → SidesOf columns below y x s → b ≡ pairwise same_kind (kinds_in s.left.kinds) (kinds_in s.right.kinds) → pairwise same_kind (kinds_of columns y) (kinds_of columns x) ≡ b
+    alike x y below b t h = sym (h ∙ ap (λ ks. pairwise same_kind ks (kinds_in s.right.kinds)) t.known_left ∙ ap (λ ks. pairwise same_kind (kinds_of columns y) ks) t.known_right)
 
-  pub difference-short : (stack : List Tree) → SidesIs stack None → asked columns plan.count stack difference_record ≡ refuse (StackShort plan.count)
-  difference-short [] s = refl
-  difference-short (x ∷ []) s = refl
-  difference-short (x ∷ (y ∷ below)) s = let z : ◌≡◌ {A = ℕ} 0 1 = cc in absurd (omega arith)
+    pub union_unfit : (stack : List Tree) → SidesAre columns stack (Some s) → false ≡ pairwise same_kind (kinds_in s.left.kinds) (kinds_in s.right.kinds) → asked columns n stack union_record ≡ refuse (Unfit n)
+    union_unfit [] t h = absurd (no-sides t)
+    union_unfit (x ∷ []) t h = absurd (no-sides t)
+    union_unfit (x ∷ (y ∷ below)) t h = rw (alike x y below false t h)
 
-  pub difference_unfit : (stack : List Tree) (left : ℕ) (k l : Kinds) → Plans columns bytes plan (laid stack) → SidesIs stack (Some left) → false ≡ pairwise same_kind (kinds_in (get_or plan.kinds left k)) (kinds_in (get_or plan.kinds (plan.count - 1) l)) → asked columns plan.count stack difference_record ≡ refuse (Unfit plan.count)
-  difference_unfit [] left k l plans s h = let z : ◌≡◌ {A = ℕ} 0 1 = cc in absurd (omega arith)
-  difference_unfit (x ∷ []) left k l plans s h = let z : ◌≡◌ {A = ℕ} 0 1 = cc in absurd (omega arith)
-  difference_unfit (x ∷ (y ∷ below)) left k l plans s h =
-      let is : left ≡ length (laid (y ∷ below)) - 1 = cc in
-      let t = top-known x (y ∷ below) plans nowhere l in
-      let u = second-known x y below plans left is nowhere k in
-      let a : pairwise same_kind (kinds_of columns y) (kinds_of columns x) ≡ false = sym (h ∙ ap (λ ks. pairwise same_kind ks (kinds_in (get_or plan.kinds (plan.count - 1) l))) u.0 ∙ ap (λ ks. pairwise same_kind (kinds_of columns y) ks) t.0) in
-      rw a
+    pub difference_unfit : (stack : List Tree) → SidesAre columns stack (Some s) → false ≡ pairwise same_kind (kinds_in s.left.kinds) (kinds_in s.right.kinds) → asked columns n stack difference_record ≡ refuse (Unfit n)
+    difference_unfit [] t h = absurd (no-sides t)
+    difference_unfit (x ∷ []) t h = absurd (no-sides t)
+    difference_unfit (x ∷ (y ∷ below)) t h = rw (alike x y below false t h)
 
-  pub difference_grew : (stack : List Tree) (left : ℕ) (k l : Kinds) (p : Position) (step : Step) → Plans columns bytes plan (laid stack) → SidesIs stack (Some left) → true ≡ pairwise same_kind (kinds_in (get_or plan.kinds left k)) (kinds_in (get_or plan.kinds (plan.count - 1) l)) → step.left ≡ left → step.start ≡ (get_or plan.positions left p).start → step.kinds ≡ get_or plan.kinds left k → Grew columns stack step difference_record (asked columns plan.count stack difference_record)
-  difference_grew [] left k l p step plans s h f g d = let z : ◌≡◌ {A = ℕ} 0 1 = cc in absurd (omega arith)
-  difference_grew (x ∷ []) left k l p step plans s h f g d = let z : ◌≡◌ {A = ℕ} 0 1 = cc in absurd (omega arith)
-  difference_grew (x ∷ (y ∷ below)) left k l p step plans s h f g d =
-      let is : left ≡ length (laid (y ∷ below)) - 1 = cc in
-      let t = top-known x (y ∷ below) plans nowhere l in
-      let u = second-known x y below plans left is p k in
-      let a : pairwise same_kind (kinds_of columns y) (kinds_of columns x) ≡ true = sym (h ∙ ap (λ ks. pairwise same_kind ks (kinds_in (get_or plan.kinds (plan.count - 1) l))) u.0 ∙ ap (λ ks. pairwise same_kind (kinds_of columns y) ks) t.0) in
-      record {
-        top = difference y x;
-        below = below;
-        is = rw a;
-        adds = two-laid x y below (difference y x);
-        said = refl;
-        parted = two-parted x y below step.left plans (f ∙ is);
-        begins = two-begins x y below (difference y x) step.start refl (g ∙ u.1);
-        known = ap kinds_in d ∙ u.0;
-      }
+    module _ (step : Step) (left : step.left ≡ s.number) (start : step.start ≡ s.left.start) (kept : step.kinds ≡ s.left.kinds) where
+      pub union_grew : (stack : List Tree) → SidesAre columns stack (Some s) → true ≡ pairwise same_kind (kinds_in s.left.kinds) (kinds_in s.right.kinds) → Grew columns stack step union_record (asked columns n stack union_record)
+      union_grew [] t h = absurd (no-sides t)
+      union_grew (x ∷ []) t h = absurd (no-sides t)
+      union_grew (x ∷ (y ∷ below)) t h =
+          let a = alike x y below true t h in
+          record {
+            top = union y x;
+            below = below;
+            is = rw a;
+            adds = two-laid x y below (union y x);
+            said = refl;
+            parted = two-parted x y below step.left (left ∙ t.numbered);
+            begins = two-begins x y below (union y x) step.start refl (start ∙ t.begins);
+            known = ap kinds_in kept ∙ t.known_left;
+          }
+
+      pub difference_grew : (stack : List Tree) → SidesAre columns stack (Some s) → true ≡ pairwise same_kind (kinds_in s.left.kinds) (kinds_in s.right.kinds) → Grew columns stack step difference_record (asked columns n stack difference_record)
+      difference_grew [] t h = absurd (no-sides t)
+      difference_grew (x ∷ []) t h = absurd (no-sides t)
+      difference_grew (x ∷ (y ∷ below)) t h =
+          let a = alike x y below true t h in
+          record {
+            top = difference y x;
+            below = below;
+            is = rw a;
+            adds = two-laid x y below (difference y x);
+            said = refl;
+            parted = two-parted x y below step.left (left ∙ t.numbered);
+            begins = two-begins x y below (difference y x) step.start refl (start ∙ t.begins);
+            known = ap kinds_in kept ∙ t.known_left;
+          }
 
 -- One more record in a plan.
+got_push : {X : Type 0} (xs : List X) (y : X) (i : ℕ) (x : X) → Some x ≡ slice_get (xs ++ y ∷ []) i → (Some x ≡ slice_get xs i) ⊎ ((i ≡ length xs) × (x ≡ y))
+got_push [] y zero x h = inr (refl, cc)
+got_push [] y (suc i) x h = absurd (let z : ◌≡◌ {A = ℕ} 0 1 = cc in omega arith)
+got_push (z ∷ xs) y zero x h = inl h
+got_push (z ∷ xs) y (suc i) x h = ⊎_elim inl (λ (p : (i ≡ length xs) × (x ≡ y)). inr (ap suc p.0, p.1)) (got_push xs y i x h)
+
 parted-more : (qs ys : List Tree) (i left : ℕ) (q : Tree) → i < length qs → Parted qs i left q → Parted (qs ++ ys) i left q
 parted-more qs ys i left (table t) h p = tt
 parted-more qs ys i left (select c q) h p = (p.0, p.1 ∙ sym (get_or_append_left qs ys (table 0) left (omega (arith, p.0))))
@@ -324,65 +326,58 @@ parted-last qs ys left (union q r) p = (p.0, p.1 ∙ sym (get_or_append_left qs 
 parted-last qs ys left (difference q r) p = (p.0, p.1 ∙ sym (get_or_append_left qs ys (table 0) left p.0), p.2, p.3 ∙ sym (get_or_append_left qs ys (table 0) (length qs - 1) (omega (arith, p.2))))
 
 module _ (columns : List (List Column)) (bytes : List ℕ) where
-  -- the nodes that were there
-  node_more : (qs ys : List Tree) (i : ℕ) (p : Position) (k : Kinds) → i < length qs → NodeOf columns bytes qs i p k → NodeOf columns bytes (qs ++ ys) i p k
-  node_more qs ys i p k h n =
+  -- the records that were there
+  node_more : (qs ys : List Tree) (i : ℕ) (p : Planned) → i < length qs → NodeOf columns bytes qs i p → NodeOf columns bytes (qs ++ ys) i p
+  node_more qs ys i p h n =
       let e : get_or qs i (table 0) ≡ get_or (qs ++ ys) i (table 0) = sym (get_or_append_left qs ys (table 0) i h) in
       record {
         rest = n.rest;
         says = n.says ∙ ap (λ (q : Tree). done (record { says = record_of q; rest = n.rest })) e;
-        parted = subst (λ (q : Tree). Parted (qs ++ ys) i p.left q) e (parted-more qs ys i p.left (get_or qs i (table 0)) h n.parted);
-        begins = subst (λ (q : Tree). p.start + length (nodes q) ≡ i + 1) e n.begins;
+        parted = subst (λ (q : Tree). Parted (qs ++ ys) i p.step.left q) e (parted-more qs ys i p.step.left (get_or qs i (table 0)) h n.parted);
+        begins = subst (λ (q : Tree). p.step.start + length (nodes q) ≡ i + 1) e n.begins;
         known = n.known ∙ ap (kinds_of columns) e;
       }
 
   -- the new one
-  node_last : (qs : List Tree) (q : Tree) (p : Position) (k : Kinds) (rest : List ℕ) → first_said (length qs) (drop p.at bytes) ≡ done (record { says = record_of q; rest = rest }) → Parted qs (length qs) p.left q → p.start + length (nodes q) ≡ length qs + 1 → kinds_in k ≡ kinds_of columns q → NodeOf columns bytes (qs ++ q ∷ []) (length qs) p k
-  node_last qs q p k rest s d b n =
+  node_last : (qs : List Tree) (q : Tree) (p : Planned) (rest : List ℕ) → first_said (length qs) (drop p.at bytes) ≡ done (record { says = record_of q; rest = rest }) → Parted qs (length qs) p.step.left q → p.step.start + length (nodes q) ≡ length qs + 1 → kinds_in p.step.kinds ≡ kinds_of columns q → NodeOf columns bytes (qs ++ q ∷ []) (length qs) p
+  node_last qs q p rest s d b n =
       let e : q ≡ get_or (qs ++ q ∷ []) (length qs) (table 0) = sym (get_or_push qs q (table 0) (length qs) refl) in
       record {
         rest = rest;
         says = s ∙ ap (λ (x : Tree). done (record { says = record_of x; rest = rest })) e;
-        parted = subst (λ (x : Tree). Parted (qs ++ q ∷ []) (length qs) p.left x) e (parted-last qs (q ∷ []) p.left q d);
-        begins = subst (λ (x : Tree). p.start + length (nodes x) ≡ length qs + 1) e b;
+        parted = subst (λ (x : Tree). Parted (qs ++ q ∷ []) (length qs) p.step.left x) e (parted-last qs (q ∷ []) p.step.left q d);
+        begins = subst (λ (x : Tree). p.step.start + length (nodes x) ≡ length qs + 1) e b;
         known = n ∙ ap (kinds_of columns) e;
       }
 
-  pub plans-more :
-      (before after : Plan) (stack : List Tree) (step : Step) (at : ℕ) (pos : Position) (says : Record) (rest : List ℕ) (o : Outcome (List Tree)) →
-      before.count < 15 → after.count ≡ before.count + 1 →
-      pos.at ≡ at → pos.left ≡ step.left → pos.start ≡ step.start →
-      after.positions ≡ set before.positions before.count pos → after.kinds ≡ set before.kinds before.count step.kinds →
+  pub plans_none : (plan : Plan) → planned_in plan ≡ [] → Plans columns bytes plan []
+  plans_none plan e = record { counted = ap length e; each = λ i p h. absurd (let f : Some p ≡ None = h ∙ ap (λ xs. slice_get xs i) e in let z : ◌≡◌ {A = ℕ} 0 1 = cc in omega arith) }
+
+  pub plans_more :
+      (before after : Plan) (stack : List Tree) (step : Step) (at : ℕ) (says : Record) (rest : List ℕ) (o : Outcome (List Tree)) →
+      planned_in after ≡ planned_in before ++ record { at = at; step = step } ∷ [] →
       Plans columns bytes before (laid stack) → (grew : Grew columns stack step says o) →
-      first_said before.count (drop at bytes) ≡ done (record { says = says; rest = rest }) →
+      first_said (record_count before) (drop at bytes) ≡ done (record { says = says; rest = rest }) →
       Plans columns bytes after (laid (grew.top ∷ grew.below))
-  plans-more before after stack step at pos says rest o room count a l s ps ks plans grew said =
-      let n : before.count ≡ length (laid stack) = plans.counted in
+  plans_more before after stack step at says rest o more plans grew said =
+      let n : record_count before ≡ length (laid stack) = plans.counted in
       let qs : List Tree = laid stack in
       let q : Tree = grew.top in
+      let new : Planned = record { at = at; step = step } in
       subst (λ (xs : List Tree). Plans columns bytes after xs) (sym grew.adds)
       (record {
-        counted = count ∙ ap (λ m. m + 1) n ∙ sym (length_push qs q);
-        each = λ i p k h.
+        counted = ap length more ∙ length_push (planned_in before) new ∙ ap (λ m. m + 1) n ∙ sym (length_push qs q);
+        each = λ i p got.
+            let found : Some p ≡ slice_get (planned_in before ++ new ∷ []) i = got ∙ ap (λ xs. slice_get xs i) more in
             ⊎_elim
-            (λ (lt : i < length qs).
-            let ne : i ≢ before.count = λ e. omega arith in
-            let u : get_or before.positions i p ≡ get_or after.positions i p = sym (ap (λ xs. get_or xs i p) ps ∙ get_or-set_other before.positions before.count i pos p ne) in
-            let v : get_or before.kinds i k ≡ get_or after.kinds i k = sym (ap (λ xs. get_or xs i k) ks ∙ get_or-set_other before.kinds before.count i step.kinds k ne) in
-            subst (λ (x : Position). NodeOf columns bytes (qs ++ q ∷ []) i x (get_or after.kinds i k)) u
-            (subst (λ (y : Kinds). NodeOf columns bytes (qs ++ q ∷ []) i (get_or before.positions i p) y) v
-            (node_more qs (q ∷ []) i (get_or before.positions i p) (get_or before.kinds i k) lt (plans.each i p k lt))))
-            (λ (ge : length qs ≤ i).
-            let here : i ≡ length qs = omega (arith, h, length_push qs q) in
-            let at_count : i ≡ before.count = here ∙ sym n in
-            let u : pos ≡ get_or after.positions i p = sym (ap (λ xs. get_or xs i p) ps ∙ ap (λ j. get_or (set before.positions before.count pos) j p) at_count ∙ get_or-set_same before.positions before.count pos p (omega (arith, before.placed))) in
-            let v : step.kinds ≡ get_or after.kinds i k = sym (ap (λ xs. get_or xs i k) ks ∙ ap (λ j. get_or (set before.kinds before.count step.kinds) j k) at_count ∙ get_or-set_same before.kinds before.count step.kinds k (omega (arith, before.known))) in
-            let spoken : first_said (length qs) (drop pos.at bytes) ≡ done (record { says = record_of q; rest = rest }) =
-            ap (λ m. first_said m (drop pos.at bytes)) (sym n) ∙ ap (λ m. first_said before.count (drop m bytes)) a ∙ said ∙ ap (λ (r : Record). done (record { says = r; rest = rest })) (sym grew.said) in
-            let new : NodeOf columns bytes (qs ++ q ∷ []) (length qs) pos step.kinds =
-            node_last qs q pos step.kinds rest spoken (subst (λ (m : ℕ). Parted qs (length qs) m q) (sym l) grew.parted) (ap (λ m. m + length (nodes q)) s ∙ grew.begins) grew.known in
-            subst (λ (x : Position). NodeOf columns bytes (qs ++ q ∷ []) i x (get_or after.kinds i k)) u
-            (subst (λ (y : Kinds). NodeOf columns bytes (qs ++ q ∷ []) i pos y) v
-            (subst (λ (j : ℕ). NodeOf columns bytes (qs ++ q ∷ []) j pos step.kinds) (sym here) new)))
-            (cases_lt i (length qs));
+            (λ (old : Some p ≡ slice_get (planned_in before) i).
+            let h = slice_get_within (planned_in before) i p (sym old) in
+            node_more qs (q ∷ []) i p (omega arith) (plans.each i p old))
+            (λ (last : (i ≡ record_count before) × (p ≡ new)).
+            let spoken : first_said (length qs) (drop at bytes) ≡ done (record { says = record_of q; rest = rest }) =
+            ap (λ m. first_said m (drop at bytes)) (sym n) ∙ said ∙ ap (λ (r : Record). done (record { says = r; rest = rest })) (sym grew.said) in
+            subst (λ (x : Planned). NodeOf columns bytes (qs ++ q ∷ []) i x) (sym last.1)
+            (subst (λ (j : ℕ). NodeOf columns bytes (qs ++ q ∷ []) j new) (sym (last.0 ∙ n))
+            (node_last qs q new rest spoken grew.parted grew.begins grew.known)))
+            (got_push (planned_in before) new i p found);
       })

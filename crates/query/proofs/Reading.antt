@@ -1,39 +1,36 @@
--- The questions put to one record.
-use Rattle.std.proofs.Common.{◌≡◌, ℕ, ◌≤◌, true, ◌&&◌, leb, List, Some, sym, ap, ◌∙◌}
-use Rattle.std.proofs.lemmas.Bool.{and_from, le-leb}
+-- What a record says, and the bytes after it.
+use Rattle.std.proofs.Common.{◌≡◌, ℕ, true, ◌&&◌, leb, List, Some, None, Ok, Err, Option, Result, refl, ap, ◌∙◌, arith, Bor}
+use Rattle.std.specs.Option.{ok_or}
+use Rattle.std.specs.Result.{result_ok}
 use Rattle.semantics.specs.declared.refusal.Refusal.{Refusal}
 use Rattle.semantics.specs.declared.refusal.Refusal.TheVariants.{BrokenRecord, UnknownRecord, WrongForm}
 use Rattle.semantics.specs.Bytes as bytes
 use Rattle.semantics.specs.Bytes.{first_record}
-use Rattle.semantics.specs.Outcomes.{Outcome, done, question, found, and_then}
+use Rattle.semantics.specs.Outcomes.{Outcome, done, refuse, question, found, and_then}
 use Rattle.semantics.specs.Reading.{record_form}
 use Rattle.semantics.specs.Records.{Record}
-use Rattle.semantics.proofs.Outcomes.{then-done, question-done}
-use Rattle.query.specs.Saying.{First, first_said}
+use Rattle.semantics.proofs.Outcomes.{question-done}
+use Rattle.query.specs.declared.record.Record as code
+use Rattle.query.specs.Saying.{First, first_said, said_by, ReadAs}
 
-module _ (n : ℕ) (s : List ℕ) (first : bytes.First) where
-  -- what is asked once the record is whole
-  abbrev form : bytes.First → Outcome First
-  form f =
-      question (leb 1 f.kind && leb f.kind 6) (UnknownRecord n)
-      (and_then (record_form (WrongForm n) f.kind f.body) (λ says.
-      done (record { says = says; rest = f.rest })))
+pub said_after : (n : ℕ) (s : List ℕ) (first : bytes.First) (says : Record) → first_record s ≡ Some first → said_by n first ≡ done says → first_said n s ≡ done (record { says = says; rest = first.rest })
+said_after n s first says f d =
+    let q = question-done (leb 1 first.kind && leb first.kind 6) (UnknownRecord n) (record_form (WrongForm n) first.kind first.body) says d in
+    let t : (leb 1 first.kind && leb first.kind 6) ≡ true = q.0 in
+    ap (λ o. and_then (found o (BrokenRecord n)) (λ first. question (leb 1 first.kind && leb first.kind 6) (UnknownRecord n) (and_then (record_form (WrongForm n) first.kind first.body) (λ says. done (record { says = says; rest = first.rest }))))) f
+    ∙ ap (λ b. question b (UnknownRecord n) (and_then (record_form (WrongForm n) first.kind first.body) (λ says. done (record { says = says; rest = first.rest })))) t
+    ∙ ap (λ o. and_then o (λ says. done (record { says = says; rest = first.rest }))) q.1
 
-  pub said-passes : first_record s ≡ Some first → 1 ≤ first.kind → first.kind ≤ 6 → ((e : Refusal) → (r : Record) × (record_form e first.kind first.body ≡ done r)) → (x : First) × (first_said n s ≡ done x)
-  said-passes f l h formed =
-      let r = formed (WrongForm n) in
-      let t : (leb 1 first.kind && leb first.kind 6) ≡ true = and_from _ _ (le-leb _ _ l) (le-leb _ _ h) in (
-        record { says = r.0; rest = first.rest },
-        ap (λ o. and_then (found o (BrokenRecord n)) form) f
-            ∙ ap (λ b. question b (UnknownRecord n) (and_then (record_form (WrongForm n) first.kind first.body) (λ says. done (record { says = says; rest = first.rest })))) t
-            ∙ ap (λ o. and_then o (λ says. done (record { says = says; rest = first.rest }))) r.1,
-      )
+-- why nothing was got
+pub refused-none : {X : Type 0} (o : Option X) (e f : Refusal) → Err e ≡ ok_or o f → (o ≡ None) × (e ≡ f)
+refused-none None e f h = (refl, cc)
+refused-none (Some x) e f h = absurd (let z : ◌≡◌ {A = ℕ} 0 1 = cc in omega arith)
 
-  pub said-reads : (x : First) → first_record s ≡ Some first → first_said n s ≡ done x → (record_form (WrongForm n) first.kind first.body ≡ done x.says) × (first.rest ≡ x.rest)
-  said-reads x f d =
-      let e : form first ≡ done x = sym (ap (λ o. and_then (found o (BrokenRecord n)) form) f) ∙ d in
-      let q = question-done (leb 1 first.kind && leb first.kind 6) (UnknownRecord n) (and_then (record_form (WrongForm n) first.kind first.body) (λ says. done (record { says = says; rest = first.rest }))) x e in
-      let p = then-done (record_form (WrongForm n) first.kind first.body) (λ says. done (record { says = says; rest = first.rest })) x q.1 in
-      let k : done (record { says = p.0; rest = first.rest }) ≡ done x = p.2 in
-      let same : record { says = p.0; rest = first.rest } ≡ x = cc in
-      (p.1 ∙ ap (λ (y : First). done y.says) same, ap (λ (y : First). y.rest) same)
+-- what is read, where the refusal does not matter
+pub read-some : (n : ℕ) (r : Result (code.Record × Bor (List ℕ)) Refusal) (o : Outcome First) (p : code.Record × Bor (List ℕ)) → ReadAs n r o → Some p ≡ result_ok r → ReadAs n (Ok p) o
+read-some n (Ok q) o p a h = let same : p ≡ q = cc in rw same a
+read-some n (Err e) o p a h = absurd (let z : ◌≡◌ {A = ℕ} 0 1 = cc in omega arith)
+
+pub read-none : (n : ℕ) (r : Result (code.Record × Bor (List ℕ)) Refusal) (o : Outcome First) → ReadAs n r o → None ≡ result_ok r → (e : Refusal) × (o ≡ refuse e)
+read-none n (Ok q) o a h = absurd (let z : ◌≡◌ {A = ℕ} 0 1 = cc in omega arith)
+read-none n (Err e) o a h = (e, a)

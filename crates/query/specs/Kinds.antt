@@ -1,13 +1,14 @@
 -- The kinds that a structure of the code stands for.
-use Rattle.std.specs.Prelude.{◌≡◌, ℕ, Bool, true, false, List, map, length, take, Some, None, Option, nat_lt}
+use Rattle.std.specs.Prelude.{◌≡◌, ℕ, Bool, true, false, List, map, length, Some, None, Option, nat_lt}
 use Rattle.semantics.specs.declared.kind.Kind.{Kind}
 use Rattle.semantics.specs.Conditions.{kind_at}
 use Rattle.semantics.specs.Lists.{every}
+use Rattle.bounded.specs.Bounded.{items}
 use Rattle.query.specs.declared.kinds.Kinds.{Kinds}
 
 -- The kinds of a relation's columns.
 abbrev pub kinds_in : Kinds → List Kind
-kinds_in k = take k.width k.list
+kinds_in k = items k.list
 
 -- Are the columns with these numbers among the columns of these kinds?
 abbrev pub among : List Kind → List ℕ → Bool

@@ -1,5 +1,5 @@
 -- What a plan stands for: the relations of a query by record number.
-use Rattle.std.specs.Prelude.{◌≡◌, ℕ, ◌+◌, ◌-◌, ◌<◌, ◌≤◌, Bool, true, false, List, [], ◌∷◌, ◌++◌, map, length, drop, Some, None, Ok, Err, Option, Result, nat_lt, slice_index, slice_index_or}
+use Rattle.std.specs.Prelude.{◌≡◌, ℕ, ◌+◌, ◌-◌, ◌<◌, ◌≤◌, Bool, true, false, List, [], ◌∷◌, ◌++◌, map, length, drop, Some, None, Ok, Err, Option, Result, nat_lt, slice_get, slice_index, slice_index_or, MatchOption}
 use Rattle.semantics.specs.declared.kind.Column.{Column}
 use Rattle.semantics.specs.declared.refusal.Refusal.{Refusal}
 use Rattle.semantics.specs.declared.refusal.Refusal.TheVariants.{BrokenRecord, StackShort, NoSuchName, Unfit, ProductTooWide}
@@ -8,11 +8,14 @@ use Rattle.semantics.specs.Queries.{Tree, table, select, project, product, union
 use Rattle.semantics.specs.Reading.{Grown, grown}
 use Rattle.semantics.specs.Records as records
 use Rattle.semantics.specs.Records.{record_of}
+use Rattle.bounded.specs.Bounded.{items}
 use Rattle.query.specs.declared.kinds.Kinds.{Kinds}
 use Rattle.query.specs.declared.plan.Position.{Position}
+use Rattle.query.specs.declared.plan.Planned.{Planned}
 use Rattle.query.specs.declared.plan.Plan.{Plan}
 use Rattle.query.specs.declared.record.Record.{Record}
 use Rattle.query.specs.declared.step.Step.{Step}
+use Rattle.query.specs.declared.step.Sides.{Sides}
 use Rattle.query.specs.Kinds.{kinds_in}
 use Rattle.query.specs.Saying.{First, first_said, Says}
 
@@ -25,19 +28,26 @@ Parted qs i left (product q r) = (left < i) × (q ≡ slice_index_or qs left (ta
 Parted qs i left (union q r) = (left < i) × (q ≡ slice_index_or qs left (table 0)) × (1 ≤ i) × (r ≡ slice_index_or qs (i - 1) (table 0))
 Parted qs i left (difference q r) = (left < i) × (q ≡ slice_index_or qs left (table 0)) × (1 ≤ i) × (r ≡ slice_index_or qs (i - 1) (table 0))
 
--- A position and kinds stand for relation number `i` of `qs`: its record is read at the position, its parts
--- have the numbers that the position says, and its columns have these kinds.
-pub record NodeOf (columns : List (List Column)) (bytes : List ℕ) (qs : List Tree) (i : ℕ) (p : Position) (k : Kinds) : Type 0 where
+-- What a plan keeps of its records, by number, and how many there are.
+abbrev pub planned_in : Plan → List Planned
+planned_in plan = items plan.records
+
+abbrev pub record_count : Plan → ℕ
+record_count plan = length (planned_in plan)
+
+-- The record that is kept so stands for relation number `i` of `qs`: it is read where it is said to begin, its
+-- parts have the numbers that the step says, and its columns have the kinds of the step.
+pub record NodeOf (columns : List (List Column)) (bytes : List ℕ) (qs : List Tree) (i : ℕ) (p : Planned) : Type 0 where
   pub rest : List ℕ
   pub says : first_said i (drop p.at bytes) ≡ done (record { says = record_of (slice_index_or qs i (table 0)); rest = rest })
-  pub parted : Parted qs i p.left (slice_index_or qs i (table 0))
-  pub begins : p.start + length (nodes (slice_index_or qs i (table 0))) ≡ i + 1
-  pub known : kinds_in k ≡ kinds_of columns (slice_index_or qs i (table 0))
+  pub parted : Parted qs i p.step.left (slice_index_or qs i (table 0))
+  pub begins : p.step.start + length (nodes (slice_index_or qs i (table 0))) ≡ i + 1
+  pub known : kinds_in p.step.kinds ≡ kinds_of columns (slice_index_or qs i (table 0))
 
 -- The plan has the relations `qs`, number by number.
 pub record Plans (columns : List (List Column)) (bytes : List ℕ) (plan : Plan) (qs : List Tree) : Type 0 where
-  pub counted : plan.count ≡ length qs
-  pub each : (i : ℕ) (p : Position) (k : Kinds) → i < length qs → NodeOf columns bytes qs i (slice_index_or plan.positions i p) (slice_index_or plan.kinds i k)
+  pub counted : record_count plan ≡ length qs
+  pub each : (i : ℕ) (p : Planned) → Some p ≡ slice_get (planned_in plan) i → NodeOf columns bytes qs i p
 
 -- The relations of a stack by record number: those of the lowest first.
 abbrev pub laid : List Tree → List Tree
@@ -70,11 +80,25 @@ abbrev pub StepIs : List (List Column) → List Tree → records.Record → Resu
 StepIs columns stack says (Ok step) o = Grew columns stack step says o
 StepIs columns stack says (Err e) o = o ≡ refuse e
 
--- The number of the left one of two relations on top of the stack, if there are two.
-abbrev pub SidesIs : List Tree → Option ℕ → Type 0
-SidesIs [] r = r ≡ None
-SidesIs (x ∷ []) r = r ≡ None
-SidesIs (x ∷ (y ∷ below)) r = r ≡ Some (length (laid (y ∷ below)) - 1)
+-- This holds of each stack whose relations the plan has.
+abbrev pub OnStack : List (List Column) → Plan → (List Tree → Type 0) → Type 0
+OnStack columns plan P = (bytes : List ℕ) (stack : List Tree) → Plans columns bytes plan (laid stack) → P stack
+
+-- The code answers what this record adds to the plan, or why it is refused.
+abbrev pub Grows : List (List Column) → Plan → records.Record → Result Step Refusal → Type 0
+Grows columns plan says r = OnStack columns plan (λ stack. StepIs columns stack says r (asked columns (record_count plan) stack says))
+
+-- The two relations on top of the stack, if there are two.
+pub record SidesOf (columns : List (List Column)) (below : List Tree) (left right : Tree) (s : Sides) : Type 0 where
+  pub numbered : s.number ≡ length (laid (left ∷ below)) - 1
+  pub begins : s.left.start ≡ length (laid below)
+  pub known_left : kinds_in s.left.kinds ≡ kinds_of columns left
+  pub known_right : kinds_in s.right.kinds ≡ kinds_of columns right
+
+abbrev pub SidesAre : List (List Column) → List Tree → Option Sides → Type 0
+SidesAre columns [] r = r ≡ None
+SidesAre columns (x ∷ []) r = r ≡ None
+SidesAre columns (x ∷ (y ∷ below)) r = MatchOption r ⊥ (λ s. SidesOf columns below y x s)
 
 -- Is exactly one relation on the stack?
 abbrev pub lone : List Tree → Bool
@@ -87,13 +111,23 @@ abbrev pub Checks : List (List Column) → List ℕ → Result Plan Refusal → 
 Checks columns bytes (Ok plan) o = (q : Tree) × (o ≡ done q) × Plans columns bytes plan (nodes q)
 Checks columns bytes (Err e) o = o ≡ refuse e
 
+-- Where the records of a plan stand, and the kinds of the columns of their relations.
+abbrev pub position_of : Planned → Position
+position_of p = record { at = p.at; left = p.step.left; start = p.step.start }
+
+abbrev pub positions_in : Plan → List Position
+positions_in plan = map position_of (planned_in plan)
+
+abbrev pub known_kinds : Plan → List Kinds
+known_kinds plan = map (λ (p : Planned). p.step.kinds) (planned_in plan)
+
 -- Where record number `i` of the plan begins.
 abbrev pub beginning : Plan → ℕ → ℕ
-beginning plan i = slice_index (map (λ (p : Position). p.at) plan.positions) i
+beginning plan i = slice_index (map (λ (p : Planned). p.at) (planned_in plan)) i
 
 -- What record number `i` of the plan says in these bytes.
 abbrev pub record_at : Plan → List ℕ → ℕ → Outcome First
-record_at plan bytes i = question (nat_lt i plan.count) (BrokenRecord i) (first_said i (drop (beginning plan i) bytes))
+record_at plan bytes i = question (nat_lt i (record_count plan)) (BrokenRecord i) (first_said i (drop (beginning plan i) bytes))
 
 -- The code has read this record, or there is none.
 abbrev pub SaidIs : ℕ → Option Record → Outcome First → Type 0

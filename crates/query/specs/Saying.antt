@@ -3,6 +3,7 @@ use Rattle.std.specs.Prelude.{◌≡◌, ℕ, ◌≤◌, Bool, true, false, ◌&
 use Rattle.std.specs.Borrow.{Bor}
 use Rattle.semantics.specs.declared.refusal.Refusal.{Refusal}
 use Rattle.semantics.specs.declared.refusal.Refusal.TheVariants.{BrokenRecord, UnknownRecord, WrongForm}
+use Rattle.semantics.specs.Bytes as bytes
 use Rattle.semantics.specs.Bytes.{first_record}
 use Rattle.semantics.specs.Conditions.{Condition}
 use Rattle.semantics.specs.Outcomes.{Outcome, done, refuse, question, found, and_then}
@@ -15,11 +16,6 @@ use Rattle.query.specs.declared.record.Record.TheVariants.{Table, Select, Projec
 abbrev pub Decided : {X : Type 0} → Bool → Refusal → Outcome X → Type 0
 Decided {X} true e o = (x : X) × (o ≡ done x)
 Decided {X} false e o = o ≡ refuse e
-
--- The code lets something pass, or refuses it.
-abbrev pub Passes : {T X : Type 0} → Result T Refusal → Outcome X → Type 0
-Passes {T} {X} (Ok t) o = (x : X) × (o ≡ done x)
-Passes {T} {X} (Err e) o = o ≡ refuse e
 
 -- The first record of a query's bytes, with the number `n`, and the bytes after it.
 pub record First : Type 0 where
@@ -43,9 +39,19 @@ Says n Product s = s ≡ records.product_record
 Says n Union s = s ≡ records.union_record
 Says n Difference s = s ≡ records.difference_record
 
--- The code has read this record and the bytes after it.
-abbrev pub ReadAs : ℕ → Record × Bor (List ℕ) → First → Type 0
-ReadAs n p f = Says n p.0 f.says × (p.1.now ≡ f.rest)
+-- What record number `n` says, if its kind is known and its body has the form of it.
+abbrev pub said_by : ℕ → bytes.First → Outcome records.Record
+said_by n first = question (nat_le 1 first.kind && nat_le first.kind 6) (UnknownRecord n) (record_form (WrongForm n) first.kind first.body)
+
+-- The code says the same as a record, or refuses it.
+abbrev pub SaidAs : ℕ → Result Record Refusal → Outcome records.Record → Type 0
+SaidAs n (Ok said) o = (s : records.Record) × (o ≡ done s) × Says n said s
+SaidAs n (Err e) o = o ≡ refuse e
+
+-- The code has read a record and the bytes after it, or refuses it.
+abbrev pub ReadAs : ℕ → Result (Record × Bor (List ℕ)) Refusal → Outcome First → Type 0
+ReadAs n (Ok p) o = (f : First) × (o ≡ done f) × Says n p.0 f.says × (p.1.now ≡ f.rest)
+ReadAs n (Err e) o = o ≡ refuse e
 
 -- A project lists at most 8 columns.
 abbrev pub Short : Record → Type 0

@@ -1,10 +1,11 @@
-ghost use Rattle.std.specs.Prelude.{◌≡◌, ℕ, ◌+◌, ◌<◌, ◌≤◌, List, [], ◌∷◌, ◌++◌, map, length, nat_lt};
+ghost use Rattle.std.specs.Prelude.{◌≡◌, ◌+◌, ◌<◌, ◌≤◌, [], ◌∷◌, ◌++◌, map, length, nat_lt, slice_get, MatchOption};
 ghost use Rattle.semantics.specs.Conditions.{kind_at};
 ghost use Rattle.semantics.specs.Kinds.{same_kind};
 ghost use Rattle.semantics.specs.Lists.{pairwise};
 ghost use Rattle.query.specs.Kinds.{kinds_in, PickedIs};
 
 use crate::kinds::Kinds;
+use bounded::Bounded;
 use semantics::{Column, Kind};
 
 impl Kinds {
@@ -13,8 +14,7 @@ impl Kinds {
         ensures { kinds_in result ≡ [] }
     {
         Kinds {
-            list: [Kind::Number; 8],
-            width: 0,
+            list: Bounded::new(Kind::Number),
         }
     }
 
@@ -22,35 +22,37 @@ impl Kinds {
     pub fn listed(&self) -> &[Kind]
         ensures { result.now ≡ kinds_in self.now }
     {
-        &self.list[0..self.width]
+        self.list.as_slice()
+    }
+
+    /// The kind of a column, if there is one of this number.
+    pub(crate) fn get(&self, column: u8) -> Option<Kind>
+        ensures { result ≡ slice_get (kinds_in self.now) column }
+    {
+        self.listed().get(usize::from(column)).copied()
     }
 
     /// The kind of a column, where there is one of this number.
+    #[tactic(auto, using(crate::proofs::Widths::kind_got))]
     pub(crate) fn at(&self, column: u8) -> Kind
         ensures { result ≡ kind_at (kinds_in self.now) column }
     {
-        let i = column as usize;
-        if i < self.width {
-            self.list[i]
-        } else {
-            Kind::Number
-        }
+        self.get(column).unwrap_or(Kind::Number)
     }
 
     /// Whether there is a column of this number.
     pub(crate) fn has(&self, column: u8) -> bool
         ensures { result ≡ nat_lt column (length (kinds_in self.now)) }
     {
-        (column as usize) < self.width
+        usize::from(column) < self.list.len()
     }
 
     /// Adds a column at the end.
     fn push(&mut self, kind: Kind)
-        requires { self.old.width < 8 }
+        requires { length (kinds_in self.old) < 8 }
         ensures { kinds_in self.new ≡ kinds_in self.old ++ kind ∷ [] }
     {
-        self.list[self.width] = kind;
-        self.width += 1;
+        let _ = self.list.push(kind);
     }
 
     /// The kinds of a table's columns.
@@ -72,38 +74,24 @@ impl Kinds {
     {
         let mut kinds = Kinds::none();
         for column in columns {
-            if *column as usize >= self.width {
-                return None;
-            }
-            kinds.push(self.at(*column));
+            kinds.push(self.get(*column)?);
         }
         Some(kinds)
     }
 
-    /// These kinds and then those.
-    pub(crate) fn joined(&self, right: &Kinds) -> Kinds
-        requires { length (kinds_in self.now) + length (kinds_in right.now) ≤ 8 }
-        ensures { kinds_in result ≡ kinds_in self.now ++ kinds_in right.now }
+    /// These kinds and then those, if they are at most 8.
+    pub(crate) fn joined(&self, right: &Kinds) -> Option<Kinds>
+        ensures { MatchOption result (8 < length (kinds_in self.now) + length (kinds_in right.now)) (λ kinds. kinds_in kinds ≡ kinds_in self.now ++ kinds_in right.now × length (kinds_in self.now) + length (kinds_in right.now) ≤ 8) }
     {
         let mut kinds = *self;
-        for kind in right.listed() {
-            kinds.push(*kind);
-        }
-        kinds
+        kinds.list.extend(right.listed()).ok()?;
+        Some(kinds)
     }
 
     /// Whether the columns are as many, and of the same kinds.
     pub(crate) fn same(&self, right: &Kinds) -> bool
         ensures { result ≡ pairwise same_kind (kinds_in self.now) (kinds_in right.now) }
     {
-        if self.width != right.width {
-            return false;
-        }
-        for i in 0..self.width {
-            if self.list[i] != right.list[i] {
-                return false;
-            }
-        }
-        true
+        self.listed() == right.listed()
     }
 }

@@ -5,7 +5,7 @@ ghost use Rattle.query.specs.Firsts.{FirstIs};
 /// The first record of some bytes: its kind, its body, and the bytes after it.
 #[derive(Clone, Copy)]
 pub(crate) struct First<'q> {
-    pub(crate) kind: usize,
+    pub(crate) kind: u16,
     pub(crate) body: &'q [u8],
     pub(crate) rest: &'q [u8],
 }
@@ -17,12 +17,8 @@ pub(crate) fn first_record(bytes: &[u8]) -> Option<First<'_>>
     let [l0, l1, k0, k1, behind @ ..] = bytes else {
         return None;
     };
-    let size = *l0 as usize + 256 * *l1 as usize;
-    let kind = *k0 as usize + 256 * *k1 as usize;
-    if size > behind.len() {
-        return None;
-    }
-    let body = &behind[0..size];
-    let rest = &behind[size..];
+    let size = usize::from(u16::from_le_bytes([*l0, *l1]));
+    let kind = u16::from_le_bytes([*k0, *k1]);
+    let (body, rest) = behind.split_at_checked(size)?;
     Some(First { kind, body, rest })
 }

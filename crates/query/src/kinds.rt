@@ -1,12 +1,8 @@
-ghost use Rattle.std.specs.Prelude.{◌≡◌, ◌≤◌, length};
-
+use bounded::Bounded;
 use semantics::Kind;
 
-/// The kinds of a relation's columns: the first `width` of `list`.
+/// The kinds of a relation's columns, at most 8.
 #[derive(Clone, Copy)]
 pub struct Kinds {
-    pub(crate) list: [Kind; 8],
-    pub(crate) width: usize,
-    ghost short: { width ≤ 8 },
-    ghost eight: { length list ≡ 8 },
+    pub(crate) list: Bounded<Kind, 8>,
 }

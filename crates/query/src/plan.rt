@@ -1,24 +1,24 @@
-ghost use Rattle.std.specs.Prelude.{◌≡◌, ◌<◌, ◌≤◌, length};
-
-use crate::kinds::Kinds;
+use crate::step::Step;
+use bounded::Bounded;
 
 /// Where a record stands: the byte that it begins at, the number of its left or only part, and the
 /// number of the first record of its relation. A right part is the record just before it.
-#[derive(Clone, Copy)]
+#[derive(Clone, Copy, PartialEq, Eq, Debug)]
 pub struct Position {
     pub at: usize,
     pub left: usize,
     pub start: usize,
-    ghost low: { start < 15 },
+}
+
+/// What a plan keeps of a record: the byte that it begins at, and what it adds to the plan.
+#[derive(Clone, Copy)]
+pub(crate) struct Planned {
+    pub(crate) at: usize,
+    pub(crate) step: Step,
 }
 
 /// A query that has passed the questions: its records by number, and the kinds of their columns.
 #[derive(Clone, Copy)]
 pub struct Plan {
-    pub positions: [Position; 15],
-    pub kinds: [Kinds; 15],
-    pub count: usize,
-    ghost few: { count ≤ 15 },
-    ghost placed: { length positions ≡ 15 },
-    ghost known: { length kinds ≡ 15 },
+    pub(crate) records: Bounded<Planned, 15>,
 }

@@ -1,9 +1,10 @@
-ghost use Rattle.std.specs.Prelude.{◌≡◌};
+ghost use Rattle.std.specs.Prelude.{◌≡◌, ◌<◌, ◌≤◌, slice_get, IfSome};
 ghost use Rattle.semantics.specs.Reading.{questions, ReadsExactly, ReadsOneWay};
 ghost use Rattle.book.specs.Books.{book_model};
-ghost use Rattle.query.specs.Plans.{Checks, record_at, SaidIs};
+ghost use Rattle.query.specs.Plans.{record_count, positions_in, known_kinds, Checks, record_at, SaidIs};
 
-use crate::plan::Plan;
+use crate::kinds::Kinds;
+use crate::plan::{Plan, Planned, Position};
 use crate::reader::Reader;
 use crate::record::Record;
 use book::Book;
@@ -22,48 +23,59 @@ pub fn check(query: &[u8], book: &Book) -> Result<Plan, Refusal>
     let mut plan = Plan::empty();
     let mut rest = query;
     while rest.len() > 0 {
-        let number = plan.count;
-        let place = number as u8;
-        if number == 15 {
+        let place = plan.place();
+        if plan.count() == 15 {
             return Err(Refusal::TooManyRecords(place));
         }
-        let reader = Reader { rest, place };
-        reader.check()?;
-        let (said, behind) = reader.read();
+        let (said, behind) = Reader { rest, place }.read()?;
         let step = plan.grow(said, book)?;
         plan.push(query.len() - rest.len(), step);
         rest = behind;
     }
     if !plan.is_single() {
-        return Err(Refusal::NotOneRelation(plan.count as u8));
+        return Err(Refusal::NotOneRelation(plan.place()));
     }
     Ok(plan)
 }
 
 impl Plan {
+    /// How many records the query has.
+    pub fn count(&self) -> usize
+        ensures value { result ≡ record_count self.now }
+        ensures few { result ≤ 15 }
+    {
+        self.records.len()
+    }
+
+    /// Where a record stands, if there is one of this number.
+    pub fn position(&self, number: usize) -> Option<Position>
+        ensures value { result ≡ slice_get (positions_in self.now) number }
+        ensures low { IfSome result (λ position. position.start < 15) }
+    {
+        let Planned { at, step } = self.planned(number)?;
+        Some(Position {
+            at,
+            left: step.left,
+            start: step.start,
+        })
+    }
+
+    /// The kinds of the columns of a record's relation, if there is a record of this number.
+    pub fn kinds_of(&self, number: usize) -> Option<Kinds>
+        ensures { result ≡ slice_get (known_kinds self.now) number }
+    {
+        Some(self.planned(number)?.step.kinds)
+    }
+
     /// What record number `number` of the plan says in the query's bytes.
     pub fn said<'q>(&self, query: &'q [u8], number: usize) -> Option<Record<'q>>
         ensures { SaidIs number result (record_at self.now query.now number) }
     {
-        if number >= self.count {
-            return None;
-        }
-        let position = self.positions[number];
-        let at = position.at;
-        if at > query.len() {
-            return None;
-        }
-        let reader = Reader {
-            rest: &query[at..],
-            place: number as u8,
-        };
-        match reader.check() {
-            Err(_) => None,
-            Ok(_) => {
-                let (said, _) = reader.read();
-                Some(said)
-            }
-        }
+        let planned = self.planned(number)?;
+        let rest = query.get(planned.at..)?;
+        let place = number as u8;
+        let (said, _) = Reader { rest, place }.read().ok()?;
+        Some(said)
     }
 }
 
@@ -98,10 +110,10 @@ mod tests {
             0, 1, 2, 0, 0, 6, 0,
         ];
         let plan = check(&query, &book)?;
-        assert_eq!(rt; plan.count, 10);
-        assert_eq!(rt; plan.positions[9].left, 1);
-        assert_eq!(rt; plan.positions[6].left, 3);
-        assert_eq!(rt; plan.kinds[6].width, 6);
+        assert_eq!(rt; plan.count(), 10);
+        assert_eq!(rt; plan.position(9).map(|position| position.left), Some(1));
+        assert_eq!(rt; plan.position(6).map(|position| position.left), Some(3));
+        assert_eq!(rt; plan.kinds_of(6).map(|kinds| kinds.listed().len()), Some(6));
         match plan.said(&query, 8) {
             Some(Record::Project(columns)) => {
                 assert_eq!(rt; columns.len(), 3);

@@ -11,3 +11,11 @@ pub(crate) struct Step {
     pub(crate) kinds: Kinds,
     ghost low: { start < 15 },
 }
+
+/// The last two relations of a plan, and the number of the left one.
+#[derive(Clone, Copy)]
+pub(crate) struct Sides {
+    pub(crate) number: usize,
+    pub(crate) left: Step,
+    pub(crate) right: Step,
+}

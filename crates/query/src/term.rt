@@ -7,7 +7,7 @@ ghost use Rattle.semantics.specs.Reading.{empty_form, column_side, number_side, 
 ghost use Rattle.query.specs.Kinds.{kinds_in};
 ghost use Rattle.query.specs.Terms.{passes, term_of, TermIs, first_term, FirstTermIs, DepthIs};
 
-use crate::first::first_record;
+use crate::first::{First, first_record};
 use crate::kinds::Kinds;
 use cells::all_digits;
 use semantics::{Kind, Operator};
@@ -31,9 +31,7 @@ fn by_column(body: &[u8]) -> Option<Term<'_>>
     let [number, left, right] = body else {
         return None;
     };
-    let Ok(operator) = Operator::try_from(*number) else {
-        return None;
-    };
+    let operator = Operator::try_from(*number).ok()?;
     Some(Term::ByColumn(operator, *left, *right))
 }
 
@@ -44,12 +42,9 @@ fn by_number(body: &[u8]) -> Option<Term<'_>>
     let [number, left, b0, b1, b2, b3] = body else {
         return None;
     };
-    let Ok(operator) = Operator::try_from(*number) else {
-        return None;
-    };
-    let low = *b0 as u32 + 256 * *b1 as u32;
-    let high = *b2 as u32 + 256 * *b3 as u32;
-    Some(Term::ByNumber(operator, *left, low + 65536 * high))
+    let operator = Operator::try_from(*number).ok()?;
+    let right = u32::from_le_bytes([*b0, *b1, *b2, *b3]);
+    Some(Term::ByNumber(operator, *left, right))
 }
 
 /// A comparison with a prefix, whose digits are the rest of the body.
@@ -60,9 +55,7 @@ fn by_prefix(body: &[u8]) -> Option<Term<'_>>
     let [number, left, digits @ ..] = body else {
         return None;
     };
-    let Ok(operator) = Operator::try_from(*number) else {
-        return None;
-    };
+    let operator = Operator::try_from(*number).ok()?;
     if digits.len() > 8 || !all_digits(digits) {
         return None;
     }
@@ -73,21 +66,24 @@ fn by_prefix(body: &[u8]) -> Option<Term<'_>>
 fn joining<'q>(term: Term<'q>, body: &[u8]) -> Option<Term<'q>>
     ensures { (e : Refusal) → TermIs e result (empty_form e (term_of term.entry) body.now) }
 {
-    if body.len() == 0 { Some(term) } else { None }
+    body.is_empty().then_some(term)
 }
 
-/// What a condition record of this kind says, if its body has the form of its kind.
-fn formed_term(kind: usize, body: &[u8]) -> Option<Term<'_>>
-    ensures { (e : Refusal) → TermIs e result (term_form e kind body.now) }
-{
-    match kind {
-        0x10 => by_column(body),
-        0x11 => by_number(body),
-        0x12 => by_prefix(body),
-        0x13 => joining(Term::And, body),
-        0x14 => joining(Term::Or, body),
-        0x15 => joining(Term::Not, body),
-        _ => None,
+impl<'q> First<'q> {
+    /// What the record says as one of a condition, if its body has the form of its kind.
+    fn term(self) -> Option<Term<'q>>
+        ensures { (e : Refusal) → TermIs e result (term_form e self.entry.kind self.entry.body.now) }
+    {
+        let body = self.body;
+        match self.kind {
+            0x10 => by_column(body),
+            0x11 => by_number(body),
+            0x12 => by_prefix(body),
+            0x13 => joining(Term::And, body),
+            0x14 => joining(Term::Or, body),
+            0x15 => joining(Term::Not, body),
+            _ => None,
+        }
     }
 }
 
@@ -95,12 +91,8 @@ fn formed_term(kind: usize, body: &[u8]) -> Option<Term<'_>>
 pub fn first_term(bytes: &[u8]) -> Option<(Term<'_>, &[u8])>
     ensures { (e : Refusal) → FirstTermIs e result (first_term e bytes.now) }
 {
-    let Some(first) = first_record(bytes) else {
-        return None;
-    };
-    let Some(term) = formed_term(first.kind, first.body) else {
-        return None;
-    };
+    let first = first_record(bytes)?;
+    let term = first.term()?;
     Some((term, first.rest))
 }
 

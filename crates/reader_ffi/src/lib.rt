@@ -40,7 +40,7 @@ pub extern "C" fn reader_number(query: &[u8]) -> u8 {
 #[unsafe(no_mangle)]
 pub extern "C" fn reader_place(query: &[u8]) -> usize {
     match read(query) {
-        Ok(plan) => plan.count,
+        Ok(plan) => plan.count(),
         Err(refusal) => refusal.place() as usize,
     }
 }
@@ -51,10 +51,9 @@ pub extern "C" fn reader_kind(query: &[u8], column: usize) -> u8 {
     let Ok(plan) = read(query) else {
         return 0;
     };
-    if plan.count == 0 {
+    let Some(kinds) = plan.kinds_of(plan.count().saturating_sub(1)) else {
         return 0;
-    }
-    let kinds = plan.kinds[plan.count - 1];
+    };
     let listed = kinds.listed();
     if column >= listed.len() {
         return 0;

@@ -23,19 +23,19 @@ returns-then-count-eq0 c columns q over = absurd (omega (arith, c.if-count-eq0.t
 pub returns-in_default-evaluate : goal.returns-in_default-evaluate
 returns-in_default-evaluate c columns q over =
     let i = c.in_default.ensures.lowest columns q over (held_none columns c.args.task.view.now q c.args.work.now) in
-    let h : c.args.task.plan.now.count - 1 < length (nodes q) = omega (arith, over.planned.counted, nodes-some q) in
-    absurd (not_too_long c.args.task.limit c.args.task.view.now q (c.args.task.plan.now.count - 1) h i.0 (c.in_default-evaluate.ensures.found columns q over h i.1))
+    let h : c.count-count.result - 1 < length (nodes q) = omega (arith, over.planned.counted, nodes-some q) in
+    absurd (not_too_long c.args.task.limit c.args.task.view.now q (c.count-count.result - 1) h i.0 (c.in_default-evaluate.ensures.found columns q over h i.1))
 
 pub returns-in_default-evaluate-2 : goal.returns-in_default-evaluate-2
 returns-in_default-evaluate-2 c columns q over =
     let i = c.in_default.ensures.lowest columns q over (held_none columns c.args.task.view.now q c.args.work.now) in
-    let h : c.args.task.plan.now.count - 1 < length (nodes q) = omega (arith, over.planned.counted, nodes-some q) in
+    let h : c.count-count.result - 1 < length (nodes q) = omega (arith, over.planned.counted, nodes-some q) in
     let s = c.in-Some-evaluate.ensures.found columns q over h i.1 in
-    absurd (not_too_long c.args.task.limit c.args.task.view.now q (c.args.task.plan.now.count - 1) h i.0 (c.in_default-evaluate-2.ensures.found columns q over h s.held))
+    absurd (not_too_long c.args.task.limit c.args.task.view.now q (c.count-count.result - 1) h i.0 (c.in_default-evaluate-2.ensures.found columns q over h s.held))
 
 pub difference-possible-requires : goal.difference-possible-requires
 difference-possible-requires c =
-    let root : c.args.task.plan.now.count - 1 < 15 = omega (arith, c.args.task.plan.now.few, c.if-count-eq0.false) in
+    let root : c.count-count.result - 1 < 15 = omega (arith, c.count-count.ensures.few, c.if-count-eq0.false) in
     let n = length c.evaluate-2.new.work in
     let low : c.slot-2.result < 30 = omega (arith, c.slot-2.ensures) in
     record {
@@ -50,14 +50,14 @@ difference-possible-requires c =
 
 pub returns : goal.returns
 returns c columns q over =
-    let root = c.args.task.plan.now.count - 1 in
+    let root = c.count-count.result - 1 in
     let i = c.in_default.ensures.lowest columns q over (held_none columns c.args.task.view.now q c.args.work.now) in
     let h : root < length (nodes q) = omega (arith, over.planned.counted, nodes-some q) in
     let s = c.in-Some-evaluate.ensures.found columns q over h i.1 in
     let t = c.in-Some-evaluate-2.ensures.found columns q over h s.held in
     let low = part-stands columns c.args.task.view.now q c.evaluate-2.new.work c.evaluate-2.new.memo Low root c.slot.result c.part-certain.result t.held h c.slot.ensures (t.grown (slot Low root) (_, s.here)) c.part-certain.ensures.found in
     let up = part-stands columns c.args.task.view.now q c.evaluate-2.new.work c.evaluate-2.new.memo High root c.slot-2.result c.part-all.result t.held h c.slot-2.ensures (_, t.here) c.part-all.ensures.found in
-    let is : relation (nodes q) root ≡ q = ap (λ n. relation (nodes q) (n - 1)) over.planned.counted ∙ root_is q in
+    let is : relation (nodes q) root ≡ q = ap (λ n. relation (nodes q) (n - 1)) (c.count-count.ensures.value ∙ over.planned.counted) ∙ root_is q in
     let first = c.spare.result * c.args.task.limit in (
       sym i.0,
       certain-stay columns c.args.task.view.now q (relation (nodes q) root) is c.args.task.limit first c.evaluate-2.new.work c.difference-possible.new.work c.part-certain.result c.part-all.result low up

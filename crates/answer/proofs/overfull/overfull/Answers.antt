@@ -10,13 +10,13 @@ pub evaluate-requires : goal.evaluate-requires
 evaluate-requires c = record {
   sound = c.loop-number.invariant.0;
   room = (omega (arith, c.requires.room.0, c.loop-number.auto.work), c.requires.room.1);
-  lower = omega (arith, c.loop-number-test.true, c.args.task.plan.now.few);
+  lower = omega (arith, c.loop-number-test.true, c.count-number-end.ensures.few);
 }
 
 pub returns-in_default : goal.returns-in_default
 returns-in_default c = record {
   sound = c.evaluate.ensures.sound;
-  few = omega (arith, c.loop-number-test.true, c.args.task.plan.now.few);
+  few = omega (arith, c.loop-number-test.true, c.count-number-end.ensures.few);
   lowest = λ columns q over held.
       let i = c.loop-number.invariant.1 columns q over held in
       let h : c.loop-number.number < length (nodes q) = omega (arith, c.loop-number-test.true, over.planned.counted) in

@@ -1,15 +1,16 @@
-use Rattle.std.proofs.Common.{◌≡◌, ℕ, ◌+◌, ◌-◌, ◌<◌, List, [], ◌∷◌, length, drop, sym, ap, ◌∙◌, subst, inl, inr, ⊎_elim, arith}
+use Rattle.std.proofs.Common.{◌≡◌, ℕ, ◌+◌, ◌-◌, ◌<◌, List, [], ◌∷◌, length, drop, Ok, sym, ap, ◌∙◌, subst, inl, inr, ⊎_elim, arith}
 use Rattle.std.proofs.lemmas.Result.{err_from_is_err_and}
 use Rattle.semantics.specs.declared.refusal.Refusal.TheVariants.{NotOneRelation}
-use Rattle.semantics.specs.Outcomes.{done}
+use Rattle.semantics.specs.Outcomes.{done, refuse}
 use Rattle.semantics.specs.Queries.{Tree}
 use Rattle.semantics.specs.Reading.{record_step, query_faults}
 use Rattle.semantics.specs.Walks.{walk}
 use Rattle.semantics.proofs.Trees.{reads-exactly, reads-one-way}
 use Rattle.book.specs.Books.{book_model}
-use Rattle.query.specs.Plans.{Plans, asked, Grew}
-use Rattle.query.specs.Saying.{First, first_said}
-use Rattle.query.proofs.Checking.{walk-many, walk_end, long-enough, wrong_length, short-said, lone-done, lone_not, said-rest, end_of_end, went_unsaid, went-unasked, went_on}
+use Rattle.query.specs.Plans.{record_count, Plans, asked, Grew}
+use Rattle.query.specs.Saying.{First, first_said, ReadAs}
+use Rattle.query.proofs.Laying.{plans_none}
+use Rattle.query.proofs.Checking.{few-records, walk-many, walk_end, long-enough, wrong_length, short-said, lone-done, lone_not, said-rest, end_of_end, went_unsaid, went-unasked, went_on}
 use Rattle.query.proofs.questions.check.Goals as goal
 
 pub returns-then-query-eq0 : goal.returns-then-query-eq0
@@ -22,64 +23,63 @@ returns-then-query-eq0 c =
 
 pub loop-rest-init : goal.loop-rest-init
 loop-rest-init c =
-    let plans = c.empty-plan.ensures (book_model c.args.book.now).columns c.args.query.now in
-    let z : c.empty-plan.result.count ≡ 0 = plans.counted in
+    let plans = plans_none (book_model c.args.book.now).columns c.args.query.now c.empty-plan.result c.empty-plan.ensures in
+    let z : record_count c.empty-plan.result ≡ 0 = plans.counted in
     let n : length c.args.query.now - length c.args.query.now ≡ 0 = omega arith in (
       omega arith,
       ap (λ m. drop m c.args.query.now) n,
       ([], plans, ap (λ m. walk query_faults (record_step (book_model c.args.book.now).columns) (15 - m) m [] c.args.query.now) z),
     )
 
-pub returns-then-number-eq15 : goal.returns-then-number-eq15
-returns-then-number-eq15 c =
+pub returns-then-count-eq15 : goal.returns-then-count-eq15
+returns-then-count-eq15 c =
     let columns = (book_model c.args.book.now).columns in
     let i = c.loop-rest.invariant.2 in
     record {
       plan =
-          long-enough columns c.args.query.now (omega arith) (omega arith)
+          rw c.place-place.ensures
+          (long-enough columns c.args.query.now (omega arith) (omega arith)
           ∙ sym i.2
-          ∙ walk-many columns (15 - c.loop-rest.plan.count) c.loop-rest.plan.count i.0 c.loop-rest.rest.now (omega arith) c.loop-rest-test.true;
+          ∙ walk-many columns (15 - (record_count c.loop-rest.plan)) (record_count c.loop-rest.plan) i.0 c.loop-rest.rest.now (omega (arith, c.count.ensures.value)) c.loop-rest-test.true);
       exact = reads-exactly;
       certain = reads-one-way;
     }
 
-pub returns-in_err-check : goal.returns-in_err-check
-returns-in_err-check c =
+pub returns-in_err-said : goal.returns-in_err-said
+returns-in_err-said c =
     let columns = (book_model c.args.book.now).columns in
     let i = c.loop-rest.invariant.2 in
     let p = err_from_is_err_and c.from_residual.result c.from_residual.ensures.1 in
-    let few : c.loop-rest.plan.count < 15 = omega (arith, c.loop-rest.plan.few) in
+    let few : (record_count c.loop-rest.plan) < 15 = omega (arith, few-records c.loop-rest.plan) in
     record {
       plan =
           rw (p.1, p.2)
           (long-enough columns c.args.query.now (omega arith) (omega arith)
           ∙ sym i.2
-          ∙ went_unsaid columns c.loop-rest.plan.count i.0 c.loop-rest.rest.now few c.loop-rest-test.true _ c.in_err-check.ensures);
+          ∙ went_unsaid columns (record_count c.loop-rest.plan) i.0 c.loop-rest.rest.now few c.loop-rest-test.true _ (subst (λ (m : ℕ). first_said m c.loop-rest.rest.now ≡ refuse c.in_err-said.field-0.0) c.place-place.ensures c.in_err-said.ensures));
       exact = reads-exactly;
       certain = reads-one-way;
     }
 
 pub grow-requires : goal.grow-requires
 grow-requires c =
-    let f = c.in_ok-check.ensures in
-    let r = c.read.ensures f.0 f.1 in
-    (omega (arith, c.loop-rest.plan.few), short-said c.loop-rest.plan.count c.read.result.0 f.0.says r.0)
+    let f = subst (λ (m : ℕ). ReadAs m (Ok (c.in_ok-said.said, c.in_ok-said.behind)) (first_said m c.loop-rest.rest.now)) c.place-place.ensures c.in_ok-said.ensures in
+    (omega (arith, few-records c.loop-rest.plan), short-said (record_count c.loop-rest.plan) c.in_ok-said.said f.0.says f.2)
 
 pub returns-in_err-step : goal.returns-in_err-step
 returns-in_err-step c =
     let columns = (book_model c.args.book.now).columns in
     let i = c.loop-rest.invariant.2 in
-    let f = c.in_ok-check.ensures in
-    let r = c.read.ensures f.0 f.1 in
+    let f = subst (λ (m : ℕ). ReadAs m (Ok (c.in_ok-said.said, c.in_ok-said.behind)) (first_said m c.loop-rest.rest.now)) c.place-place.ensures c.in_ok-said.ensures in
     let p = err_from_is_err_and c.from_residual-in_err-step.result c.from_residual-in_err-step.ensures.1 in
-    let few : c.loop-rest.plan.count < 15 = omega (arith, c.loop-rest.plan.few) in
+    let few : (record_count c.loop-rest.plan) < 15 = omega (arith, few-records c.loop-rest.plan) in
     record {
       plan =
           rw (p.1, p.2)
           (long-enough columns c.args.query.now (omega arith) (omega arith)
           ∙ sym i.2
-          ∙ went-unasked columns c.loop-rest.plan.count i.0 c.loop-rest.rest.now few c.loop-rest-test.true f.0 _ f.1
-          (c.in_err-step.ensures c.args.query.now i.0 f.0.says i.1 r.0));
+          ∙ went-unasked columns (record_count c.loop-rest.plan) i.0 c.loop-rest.rest.now few c.loop-rest-test.true f.0 _ f.1
+          (c.in_err-step.ensures f.0.says f.2 c.args.query.now i.0 i.1));
       exact = reads-exactly;
       certain = reads-one-way;
     }
@@ -88,23 +88,23 @@ pub loop-rest-preserved : goal.loop-rest-preserved
 loop-rest-preserved c =
     let columns = (book_model c.args.book.now).columns in
     let q : List ℕ = c.args.query.now in
-    let n : ℕ = c.loop-rest.plan.count in
+    let n : ℕ = (record_count c.loop-rest.plan) in
     let rest : List ℕ = c.loop-rest.rest.now in
     let v = c.loop-rest.invariant in
     let stack : List Tree = v.2.0 in
-    let f : First = c.in_ok-check.ensures.0 in
-    let said : first_said n rest ≡ done f = c.in_ok-check.ensures.1 in
-    let r = c.read.ensures f said in
+    let r = subst (λ (m : ℕ). ReadAs m (Ok (c.in_ok-said.said, c.in_ok-said.behind)) (first_said m rest)) c.place-place.ensures c.in_ok-said.ensures in
+    let f : First = r.0 in
+    let said : first_said n rest ≡ done f = r.1 in
     let s = said-rest n rest f said in
-    let few : n < 15 = omega (arith, c.loop-rest.plan.few) in
-    let g : Grew columns stack c.in_ok-step.step f.says (asked columns n stack f.says) = c.in_ok-step.ensures q stack f.says v.2.1 r.0 in (
-      omega (arith, ap length r.1, s.0, v.0),
-      subst (λ (b : List ℕ). drop (length q - length b) q ≡ b) (sym r.1) (end_of_end q rest f.rest v.0 v.1 s.0 s.1),
+    let few : n < 15 = omega (arith, few-records c.loop-rest.plan) in
+    let g : Grew columns stack c.in_ok-step.step f.says (asked columns n stack f.says) = c.in_ok-step.ensures f.says r.2 q stack v.2.1 in (
+      omega (arith, ap length r.3, s.0, v.0),
+      subst (λ (b : List ℕ). drop (length q - length b) q ≡ b) (sym r.3) (end_of_end q rest f.rest v.0 v.1 s.0 s.1),
       (
         g.top ∷ g.below,
         c.push.ensures.plans columns q stack f.says f.rest (asked columns n stack f.says) v.2.1 g (ap (first_said n) v.1 ∙ said),
-        ap (λ m. walk query_faults (record_step columns) (15 - m) m (g.top ∷ g.below) c.read.result.1.now) c.push.ensures.count
-            ∙ ap (λ b. walk query_faults (record_step columns) (15 - (n + 1)) (n + 1) (g.top ∷ g.below) b) r.1
+        ap (λ m. walk query_faults (record_step columns) (15 - m) m (g.top ∷ g.below) c.in_ok-said.behind.now) c.push.ensures.count
+            ∙ ap (λ b. walk query_faults (record_step columns) (15 - (n + 1)) (n + 1) (g.top ∷ g.below) b) r.3
             ∙ went_on columns n stack rest few c.loop-rest-test.true f (g.top ∷ g.below) said g.is
             ∙ v.2.2,
       ),
@@ -116,10 +116,11 @@ returns-then-not-is_single c =
     let i = c.loop-rest.invariant.2 in
     record {
       plan =
-          long-enough columns c.args.query.now (omega arith) (omega arith)
+          rw c.place.ensures
+          (long-enough columns c.args.query.now (omega arith) (omega arith)
           ∙ sym i.2
-          ∙ walk_end columns (15 - c.loop-rest.plan.count) c.loop-rest.plan.count i.0 c.loop-rest.rest.now (omega arith)
-          ∙ lone_not (NotOneRelation c.loop-rest.plan.count) i.0 (c.if-not-is_single.ensures columns c.args.query.now i.0 i.1);
+          ∙ walk_end columns (15 - (record_count c.loop-rest.plan)) (record_count c.loop-rest.plan) i.0 c.loop-rest.rest.now (omega arith)
+          ∙ lone_not (NotOneRelation (record_count c.loop-rest.plan)) i.0 (c.if-not-is_single.ensures columns c.args.query.now i.0 i.1));
       exact = reads-exactly;
       certain = reads-one-way;
     }
@@ -128,13 +129,13 @@ pub returns : goal.returns
 returns c =
     let columns = (book_model c.args.book.now).columns in
     let i = c.loop-rest.invariant.2 in
-    let l = lone-done (NotOneRelation c.loop-rest.plan.count) i.0 (c.if-not-is_single.ensures columns c.args.query.now i.0 i.1) in
+    let l = lone-done (NotOneRelation (record_count c.loop-rest.plan)) i.0 (c.if-not-is_single.ensures columns c.args.query.now i.0 i.1) in
     record {
       plan = (
         l.0,
         long-enough columns c.args.query.now (omega arith) (omega arith)
             ∙ sym i.2
-            ∙ walk_end columns (15 - c.loop-rest.plan.count) c.loop-rest.plan.count i.0 c.loop-rest.rest.now (omega arith)
+            ∙ walk_end columns (15 - (record_count c.loop-rest.plan)) (record_count c.loop-rest.plan) i.0 c.loop-rest.rest.now (omega arith)
             ∙ l.1,
         subst (λ (qs : List Tree). Plans columns c.args.query.now c.loop-rest.plan qs) l.2 i.1,
       );

@@ -7,13 +7,12 @@ use Rattle.query.proofs.kinds.Kinds.of_columns.Goals as goal
 
 pub push-requires : goal.push-requires
 push-requires c =
-    room-taken c.loop-column.kinds (λ (column : Column). column.kind) c.args.columns.now c.loop-column.column-index c.loop-column.invariant c.loop-column-test.true c.requires
+    room-taken (λ (column : Column). column.kind) c.args.columns.now (kinds_in c.loop-column.kinds) c.loop-column.column-index c.loop-column.invariant c.loop-column-test.true c.requires
 
 pub loop-column-preserved : goal.loop-column-preserved
 loop-column-preserved c =
-    more_mapped (kinds_in c.loop-column.kinds) (kinds_in c.push.new.self) (λ (column : Column). column.kind) c.args.columns.now c.loop-column.column-index (column_at [] 0)
-    _ c.loop-column.invariant c.loop-column-test.true c.push.ensures refl
+    more_mapped (λ (column : Column). column.kind) c.args.columns.now (kinds_in c.loop-column.kinds) c.loop-column.column-index c.loop-column.invariant (kinds_in c.push.new.self) (column_at [] 0) _ c.loop-column-test.true c.push.ensures refl
 
 pub returns : goal.returns
 returns c =
-    all_mapped (kinds_in c.loop-column.kinds) (λ (column : Column). column.kind) c.args.columns.now c.loop-column.column-index c.loop-column.invariant c.loop-column-test.false
+    all_mapped (λ (column : Column). column.kind) c.args.columns.now (kinds_in c.loop-column.kinds) c.loop-column.column-index c.loop-column.invariant c.loop-column-test.false
