@@ -3,27 +3,15 @@
 
 #![tactic(auto)]
 
-use book::Draft;
 use cells::Cell;
 use query::{Plan, check};
 use semantics::Refusal;
-
-/// The columns that queries are read over.
-fn columns() -> Result<Draft, Refusal> {
-    let mut draft = Draft::new();
-    draft.declare(0, 2, 1)?;
-    draft.declare(0, 1, 0)?;
-    draft.declare(0, 1, 0)?;
-    draft.declare(1, 1, 0)?;
-    draft.declare(1, 1, 0)?;
-    Ok(draft)
-}
+use tariffs::reader_columns;
 
 /// The plan of a query, or its refusal.
 fn read(query: &[u8]) -> Result<Plan, Refusal> {
-    let draft = columns()?;
     let mut memory = [Cell::Number(0); 32];
-    let book = draft.open(&mut memory);
+    let book = reader_columns().open(&mut memory);
     check(query, &book)
 }
 
