@@ -9,6 +9,7 @@ use crate::term::first_term;
 pub(crate) fn is_condition(body: &[u8]) -> bool
     ensures { (e : Refusal) → Decided result e (condition_form e body.now) }
 {
+    // `Terms` does not say where the terms end, and here the bytes must end with them.
     let mut rest = body;
     let mut depth = 0;
     for _ in 0..15usize {

@@ -21,6 +21,7 @@ pub fn check(query: &[u8], book: &Book) -> Result<Plan, Refusal>
         return Err(Refusal::QueryLength);
     }
     let mut plan = Plan::empty();
+    // An iterator of records would have to carry the plan's count for their places: `rest` says it all.
     let mut rest = query;
     while rest.len() > 0 {
         let place = plan.place();

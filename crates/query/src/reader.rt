@@ -20,6 +20,7 @@ impl<'q> First<'q> {
         ensures { SaidAs place result (said_by place (first_of self.entry)) }
     {
         let body = self.body;
+        // The kinds are numbers here alone: an enum of them would be read by such a match, and matched again.
         let said = match self.kind {
             1 => match body {
                 [table] => Some(Record::Table(*table)),

@@ -75,6 +75,7 @@ impl<'q> First<'q> {
         ensures { (e : Refusal) → TermIs e result (term_form e self.entry.kind self.entry.body.now) }
     {
         let body = self.body;
+        // The kinds are numbers here alone: an enum of them would be read by such a match, and matched again.
         match self.kind {
             0x10 => by_column(body),
             0x11 => by_number(body),
