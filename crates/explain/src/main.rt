@@ -2,52 +2,36 @@
 
 #![tactic(auto)]
 
-mod input;
 mod show;
 mod tree;
 mod words;
 
-use anyhow::anyhow;
-use book::Draft;
 use cells::Cell;
 use query::check;
-use semantics::Refusal;
+use std::io::Read;
+use tariffs::reader_columns;
 
-/// The columns that queries are read over: table 0 has a prefix in domain 1 and two numbers, table 1
-/// has two numbers.
-fn columns() -> Result<Draft, Refusal> {
-    let mut draft = Draft::new();
-    draft.declare(0, 2, 1)?;
-    draft.declare(0, 1, 0)?;
-    draft.declare(0, 1, 0)?;
-    draft.declare(1, 1, 0)?;
-    draft.declare(1, 1, 0)?;
-    Ok(draft)
-}
-
-/// A query over these columns.
+/// A query over tariffs in table 0 and two numbers in table 1.
 fn explain(rt: &HostRuntime, query: &[u8]) -> anyhow::Result<()> {
-    let Ok(draft) = columns() else {
-        return Err(anyhow!("a column was refused"));
-    };
     let mut memory = [Cell::Number(0); 32];
-    let book = draft.open(&mut memory);
+    let book = reader_columns().open(&mut memory);
     match check(query, &book) {
         Ok(plan) => {
             show::result(rt, &plan)?;
             tree::root(rt, query, &plan)
         }
-        Err(refusal) => show::refusal(rt, refusal),
+        Err(refusal) => {
+            println!(rt; "{refusal}")?;
+            Ok(())
+        }
     }
 }
 
+/// Reads one byte more than a query may have, so that a longer one is refused.
 fn run(rt: &HostRuntime) -> anyhow::Result<()> {
-    let mut buffer = [0; 1025];
-    let length = input::read(rt, &mut buffer)?;
-    let Some(query) = buffer.get(0..length) else {
-        return Err(anyhow!("the input was not read"));
-    };
-    explain(rt, query)
+    let mut query = Vec::new(rt.alloc());
+    rt.stdin().take(1025).read_to_end(&mut query)?;
+    explain(rt, query.as_slice())
 }
 
 fn main(rt: HostRuntime) -> anyhow::Result<()> {

@@ -1,17 +1,8 @@
 //! Lines that the program writes.
 
 use crate::words;
+use crate::words::InWords;
 use query::{Plan, Record};
-use semantics::Refusal;
-
-/// A refusal: its number, its place and its meaning.
-pub(crate) fn refusal(rt: &HostRuntime, refusal: Refusal) -> anyhow::Result<()> {
-    let number = refusal.number();
-    let place = refusal.place();
-    let meaning = refusal.meaning();
-    println!(rt; "refused {number} at {place}: {meaning}")?;
-    Ok(())
-}
 
 /// The count of a query's records, and the kinds of its rows' cells.
 pub(crate) fn result(rt: &HostRuntime, plan: &Plan) -> anyhow::Result<()> {
@@ -21,7 +12,7 @@ pub(crate) fn result(rt: &HostRuntime, plan: &Plan) -> anyhow::Result<()> {
     };
     print!(rt; "A query of {count} records. The cells of its rows:")?;
     for kind in kinds.listed() {
-        let name = words::kind(*kind);
+        let name = InWords(*kind);
         print!(rt; " {name}")?;
     }
     println!(rt; "")?;

@@ -3,68 +3,69 @@
 use query::{Record, Term, Terms};
 use semantics::{Kind, Operator};
 use std::alloc::{AllocError, Global};
+use std::fmt;
 
-/// A condition in words, and whether it is joined by "and" or "or" and so needs brackets as a part.
+/// A condition in words.
 #[derive(Drop)]
-struct Words {
-    text: String,
-    joined: bool,
+enum Words {
+    /// A comparison or a negation.
+    Whole(String),
+    /// Two conditions joined by "and" or "or", which need brackets as a part of another.
+    Joined(String),
 }
 
-/// The name of a kind.
-pub(crate) fn kind(kind: Kind) -> &'static str {
-    match kind {
-        Kind::Number => "number",
-        Kind::Prefix => "prefix",
+/// A kind, or an operator between its two sides, in words.
+#[derive(Clone, Copy)]
+pub(crate) struct InWords<T>(pub(crate) T);
+
+impl fmt::Display for InWords<Kind> {
+    fn fmt<W: fmt::Write>(&self, f: &mut fmt::Formatter<W>) -> fmt::Result {
+        match self.0 {
+            Kind::Number => write!(f, "number"),
+            Kind::Prefix => write!(f, "prefix"),
+        }
     }
 }
 
-/// An operator between its two sides.
-fn operator(operator: Operator) -> &'static str {
-    match operator {
-        Operator::Equal => "equal to",
-        Operator::Unequal => "unequal to",
-        Operator::Less => "less than",
-        Operator::AtMost => "at most",
-        Operator::Covers => "covers",
-        Operator::Shorter => "shorter than",
+impl fmt::Display for InWords<Operator> {
+    fn fmt<W: fmt::Write>(&self, f: &mut fmt::Formatter<W>) -> fmt::Result {
+        match self.0 {
+            Operator::Equal => write!(f, "equal to"),
+            Operator::Unequal => write!(f, "unequal to"),
+            Operator::Less => write!(f, "less than"),
+            Operator::AtMost => write!(f, "at most"),
+            Operator::Covers => write!(f, "covers"),
+            Operator::Shorter => write!(f, "shorter than"),
+        }
     }
 }
 
 /// The digits of a prefix.
 fn prefix(heap: Global, digits: &[u8]) -> Result<String, AllocError> {
-    if digits.len() == 0 {
+    if digits.is_empty() {
         return String::from_str(heap, "the empty prefix");
     }
-    let mut text = String::new(heap);
-    for digit in digits {
-        text.push(char::from(*digit))?;
-    }
-    Ok(text)
+    digits.iter().map(|digit| char::from(*digit)).collect(heap)
 }
 
 /// A comparison.
-fn comparison(heap: Global, name: Operator, left: u8, right: &str) -> Result<Words, AllocError> {
-    let name = operator(name);
+fn comparison(
+    heap: Global,
+    operator: Operator,
+    left: u8,
+    right: &str,
+) -> Result<Words, AllocError> {
+    let name = InWords(operator);
     let text = format!(in heap; "column {left} {name} {right}")?;
-    Ok(Words {
-        text,
-        joined: false,
-    })
+    Ok(Words::Whole(text))
 }
 
 /// A condition as a part of another: in brackets if it is joined itself.
 fn part(heap: Global, stack: &mut Vec<Words>) -> Result<String, AllocError> {
     match stack.pop() {
         None => Ok(String::new(heap)),
-        Some(words) => {
-            let Words { text, joined } = words;
-            if joined {
-                format!(in heap; "({text})")
-            } else {
-                Ok(text)
-            }
-        }
+        Some(Words::Whole(text)) => Ok(text),
+        Some(Words::Joined(text)) => format!(in heap; "({text})"),
     }
 }
 
@@ -73,7 +74,7 @@ fn join(heap: Global, stack: &mut Vec<Words>, word: &str) -> Result<Words, Alloc
     let right = part(heap, stack)?;
     let left = part(heap, stack)?;
     let text = format!(in heap; "{left} {word} {right}")?;
-    Ok(Words { text, joined: true })
+    Ok(Words::Joined(text))
 }
 
 /// What a condition record makes of the conditions before it.
@@ -96,10 +97,7 @@ fn term(heap: Global, stack: &mut Vec<Words>, said: Term<'_>) -> Result<Words, A
         Term::Not => {
             let text = part(heap, stack)?;
             let text = format!(in heap; "not {text}")?;
-            Ok(Words {
-                text,
-                joined: false,
-            })
+            Ok(Words::Whole(text))
         }
     }
 }
@@ -113,7 +111,7 @@ fn condition(heap: Global, body: &[u8]) -> Result<String, AllocError> {
     }
     match stack.pop() {
         None => Ok(String::new(heap)),
-        Some(words) => Ok(words.text),
+        Some(Words::Whole(text) | Words::Joined(text)) => Ok(text),
     }
 }
 
