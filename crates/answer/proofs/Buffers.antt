@@ -1,11 +1,8 @@
 -- Cells written into a buffer behind those that it holds.
-use Rattle.std.proofs.Common.{◌≡◌, ℕ, ◌+◌, ◌-◌, ◌<◌, ◌≤◌, List, ◌++◌, map, length, get_or, take, sym, refl, ap, ◌∙◌, arith}
+use Rattle.std.proofs.Common.{◌≡◌, ℕ, ◌+◌, ◌-◌, ◌≤◌, List, ◌++◌, map, length, take, refl, ap, ◌∙◌, arith}
 use borrow.Rule.Slice.PartMut.{put_mid}
-use Rattle.std.proofs.lemmas.List.{length-append, length-take, length-drop, length-map, get_or-map, get_or_past, map-append}
+use Rattle.std.proofs.lemmas.List.{length-append, length-take, length-drop, map-append}
 use Rattle.std.proofs.lemmas.Slice.{put_mid-paste, take-put_mid}
-use Rattle.semantics.specs.Truths.{cell_at}
-use Rattle.semantics.specs.Values.{number}
-use Rattle.semantics.specs.Views as semantics
 use Rattle.view.specs.declared.masked.Masked.{Masked}
 use Rattle.view.specs.Views.{masked_of}
 
@@ -24,10 +21,3 @@ module _ {X : Type 0} (xs ys zs : List X) (w : ℕ) (fits : w + length zs ≤ le
 pub masked-written : (xs ys zs : List Masked) (w : ℕ) → w + length zs ≤ length xs → ys ≡ zs
     → map masked_of (take (w + length zs) (put_mid w (w + length zs - w) xs ys)) ≡ map masked_of (take w xs) ++ map masked_of zs
 masked-written xs ys zs w fits is = ap (map masked_of) (take_written_lem xs ys zs w fits is) ∙ map-append masked_of (take w xs) zs
-
--- the cell of a column
-pub cell_in : (xs : List Masked) (i : ℕ) (x : Masked) → i < length xs → x ≡ get_or xs i x → masked_of x ≡ cell_at (map masked_of xs) i
-cell_in xs i x h e = ap masked_of e ∙ sym (get_or-map masked_of xs i x (semantics.value (number 0)) h)
-
-pub cell-past : (xs : List Masked) (i : ℕ) → length xs ≤ i → semantics.value (number 0) ≡ cell_at (map masked_of xs) i
-cell-past xs i h = sym (get_or_past (map masked_of xs) i (semantics.value (number 0)) (let l = length-map xs masked_of in omega arith))

@@ -1,122 +1,87 @@
--- Loops that keep the rows of a block which pass a test.
-use Rattle.std.proofs.Common.{◌≡◌, ℕ, ◌+◌, ◌<◌, ◌≤◌, Bool, true, false, not, List, [], get_or, take, filter, sym, refl, ap, ◌∙◌, arith}
-use Rattle.std.proofs.lemmas.List.{take_all}
-use Rattle.semantics.specs.declared.refusal.Refusal.{Refusal}
-use Rattle.semantics.specs.Conditions.{Condition}
-use Rattle.semantics.specs.Lists.{some}
-use Rattle.semantics.specs.Outcomes.{done}
-use Rattle.semantics.specs.Reading.{condition_form}
-use Rattle.semantics.specs.Truths.{truth}
+-- The loop that keeps the rows of a block which pass a test.
+use Rattle.std.proofs.Common.{◌≡◌, ℕ, ◌+◌, ◌<◌, ◌≤◌, Bool, true, false, List, [], ◌∷◌, ◌++◌, map, get_or, take, filter, sym, refl, ap, ◌∙◌, subst, arith}
+use Rattle.std.proofs.lemmas.List.{append_assoc, append-nil, take_all}
+use Rattle.std.specs.Borrow.{Bor}
 use Rattle.semantics.specs.Views as semantics
 use Rattle.view.specs.declared.masked.Masked.{Masked}
+use Rattle.view.specs.Views.{masked_of}
 use Rattle.workspace.specs.declared.block.Block.{Block}
 use Rattle.workspace.specs.Blocks.{block_rows}
 use Rattle.workspace.proofs.Reading.{length_rows}
-use Rattle.answer.specs.declared.bound.Bound.{Bound}
-use Rattle.answer.specs.Bounds.{keeps, takes_out}
+use Rattle.answer.specs.declared.slot.Slot.{Slot}
 use Rattle.answer.specs.Places.{Untouched, Apart, Placed, Pushed}
-use Rattle.answer.proofs.Places.{block_apart}
-use Rattle.answer.proofs.Loops.{placed-after, placed-none, rows_none, kept_on, kept_off}
+use Rattle.answer.specs.Slots.{Same, Beside, Tells, slot_rows}
+use Rattle.answer.proofs.Places.{untouched-same, block_apart}
+use Rattle.answer.proofs.Loops.{placed-after, kept_on, kept_off}
 
--- The numbers of a block: its first row, how many there are, and their width.
-abbrev pub Numbers : Type 0
-Numbers = ℕ × (ℕ × (ℕ × Unit {0}))
-
--- The block has these numbers.
-pub record Has (b : Block) (t : Numbers) : Type 0 where
-  pub at : b.first ≡ t.0
-  pub many : b.count ≡ t.1.0
-  pub wide : b.width ≡ t.1.1.0
-
--- Two blocks of the same numbers.
-module _ (b d : Block) (t : Numbers) (hb : Has b t) (hd : Has d t) where
-  pub rows_same : (cells : List Masked) → block_rows cells b ≡ block_rows cells d
-  unfolding block_rows
-  rows_same cells = rw (hb.at, hb.many, hb.wide, hd.at, hd.many, hd.wide)
-
-  pub placed_same : (limit first width : ℕ) (old new : List Masked) → Placed limit first width old new b → Placed limit first width old new d
-  placed_same limit first width old new p = record {
-    begins = hd.at ∙ sym hb.at ∙ p.begins;
-    few = omega (arith, p.few, hb.many, hd.many);
-    wide = hd.wide ∙ sym hb.wide ∙ p.wide;
-    untouched = p.untouched;
-  }
-
--- A row of a block that is apart from what was written.
+-- a row of a block that is apart from what was written
 pub row_apart : (limit first : ℕ) (old mid : List Masked) (from : Block) (i : ℕ) (x : List semantics.Masked) → Untouched first limit old mid → Apart first limit from
     → x ≡ get_or (block_rows mid from) i [] → x ≡ get_or (block_rows old from) i []
 row_apart limit first old mid from i x u a e = e ∙ ap (λ l. get_or l i []) (block_apart first limit old mid from u a)
 
--- A condition that these bytes are the form of.
-abbrev pub Formed : List ℕ → Type 0
-Formed bytes = (e : Refusal) × ((c : Condition) × (condition_form e bytes ≡ done c))
+-- what stands beside a slot does so while it is filled
+pub beside_kept : (start slot : Slot) (b : Block) → Same start slot → Placed start.limit start.rows.first start.rows.width start.work.now slot.work.now slot.rows → Beside start b → Beside slot b
+beside_kept start slot b same p beside = record {
+  apart = subst (λ n. Apart n slot.limit b) (sym p.begins) (subst (λ n. Apart start.rows.first n b) (sym same.limit_kept) beside.apart);
+  within = omega (arith, p.untouched.long, beside.within);
+}
 
--- Does a select with it keep this row?
-abbrev pub selects : Bound → (bytes : List ℕ) → Formed bytes → List semantics.Masked → Bool
-selects bound bytes k x = keeps bound (truth k.1.0 x)
+module _ (finds : Bor (List Masked) → Bor (List Masked) → Bool → Type 0) (start : Slot) (from : Block) where
+  -- The rows before row number `i` that pass stand behind those that the slot had at first.
+  pub record Keeping (slot : Slot) (i : ℕ) : Type 0 where
+    pub same : Same start slot
+    pub placed : Placed start.limit start.rows.first start.rows.width start.work.now slot.work.now slot.rows
+    pub seen : slot.rows.count ≤ start.rows.count + i
+    pub holds : (passes : List semantics.Masked → Bool) → Tells finds start passes → slot_rows slot ≡ slot_rows start ++ filter passes (take i (block_rows start.work.now from))
 
--- Does no row of these take this row out of a difference?
-abbrev pub spares : Bound → List (List semantics.Masked) → Unit {0} → List semantics.Masked → Bool
-spares bound rows k x = not (some (takes_out bound x) rows)
+  pub keeping_none : Keeping start 0
+  keeping_none = record {
+    same = record { reference = refl; limit_kept = refl };
+    placed = record { begins = refl; few = start.few; wide = refl; untouched = untouched-same start.rows.first start.limit start.work.now };
+    seen = omega arith;
+    holds = λ passes tells. sym (append-nil (slot_rows start));
+  }
 
--- The rows before row number `i` that pass each of the tests stand in a block of these numbers.
-pub record Keeping (K : Type 0) (p : K → List semantics.Masked → Bool) (limit first : ℕ) (from : Block) (old new : List Masked) (t : Numbers) (i : ℕ) : Type 0 where
-  pub block : Block
-  pub has : Has block t
-  pub placed : Placed limit first from.width old new block
-  pub seen : block.count ≤ i
-  pub holds : (k : K) → block_rows new block ≡ filter (p k) (take i (block_rows old from))
+  module _ (slot : Slot) (i : ℕ) (inv : Keeping slot i) where
+    module _ (beside : Beside start from) (h : i < from.count) (cells row : Bor (List Masked)) (here : cells.now ≡ slot.work.now) (is : map masked_of row.now ≡ get_or (block_rows slot.work.now from) i []) where
+      from_start : map masked_of row.now ≡ get_or (block_rows start.work.now from) i []
+      from_start = row_apart start.limit start.rows.first start.work.now slot.work.now from i (map masked_of row.now) inv.placed.untouched beside.apart is
 
-module _ (K : Type 0) (p : K → List semantics.Masked → Bool) (limit first : ℕ) (from : Block) (old : List Masked) where
-  pub keeping_none : first + limit ≤ 15360 → Keeping K p limit first from old old (first, (0, (from.width, tt))) 0
-  keeping_none h =
-      let b : Block = record { first = first; count = 0; width = from.width; narrow = from.narrow; low = omega arith } in
-      record {
-        block = b;
-        has = record { at = refl; many = refl; wide = refl };
-        placed = placed-none limit first from.width old b refl refl refl;
-        seen = omega arith;
-        holds = λ k. rows_none old b refl;
-      }
+      beyond : Untouched start.rows.first start.limit start.work.now cells.now
+      beyond = subst (λ w. Untouched start.rows.first start.limit start.work.now w) (sym here) inv.placed.untouched
 
-  module _ (mid : List Masked) (t : Numbers) (i : ℕ) (inv : Keeping K p limit first from old mid t i) where
-    pub keeping_row : Apart first limit from → (x : List semantics.Masked) → x ≡ get_or (block_rows mid from) i [] → x ≡ get_or (block_rows old from) i []
-    keeping_row a x e = row_apart limit first old mid from i x inv.placed.untouched a e
+      -- a row that passes
+      pub keeping_on : finds cells row true → (new : Slot) → Same slot new → Pushed slot.limit slot.rows (map masked_of row.now) slot.work.now new.work.now new.rows → Keeping new (i + 1)
+      keeping_on found new same pushed =
+          let q : Pushed start.limit slot.rows (map masked_of row.now) slot.work.now new.work.now new.rows
+          = subst (λ n. Pushed n slot.rows (map masked_of row.now) slot.work.now new.work.now new.rows) inv.same.limit_kept pushed in
+          record {
+            same = record { reference = same.reference ∙ inv.same.reference; limit_kept = same.limit_kept ∙ inv.same.limit_kept };
+            placed = placed-after start.limit start.rows.first start.rows.width start.work.now slot.work.now new.work.now slot.rows inv.placed new.rows q.placed;
+            seen = omega (arith, q.more, inv.seen);
+            holds = λ passes tells.
+                let src = block_rows start.work.now from in
+                let l = length_rows start.work.now from in
+                let e1 = q.holds in
+                let e2 = inv.holds passes tells in
+                let e3 = kept_on passes src i (map masked_of row.now) (omega arith) from_start (sym (tells cells row true beyond found)) in
+                let e4 = append_assoc (slot_rows start) (filter passes (take i src)) (map masked_of row.now ∷ []) in
+                cc;
+          }
 
-    module _ (x : List semantics.Masked) (h : i < from.count) (is : x ≡ get_or (block_rows old from) i []) where
-      -- a row that is kept
-      pub keeping_on : ((k : K) → p k x ≡ true) → (to b : Block) (new : List Masked) (y : List semantics.Masked) → Pushed limit to y mid new b → y ≡ x → Has to t
-          → Keeping K p limit first from old new (b.first, (b.count, (b.width, tt))) (i + 1)
-      keeping_on passes to b new y q e ht = record {
-        block = b;
-        has = record { at = refl; many = refl; wide = refl };
-        placed = placed-after limit first from.width old mid new to (placed_same inv.block to t inv.has ht limit first from.width old mid inv.placed) b q.placed;
-        seen = omega (arith, q.more, ht.many, inv.has.many, inv.seen);
-        holds = λ k.
-            let l = length_rows old from in
-            let e1 = q.holds in
-            let e2 = rows_same inv.block to t inv.has ht mid in
-            let e3 = inv.holds k in
-            let e4 = kept_on (p k) (block_rows old from) i x (omega arith) is (passes k) in
-            cc;
-      }
-
-      -- a row that is left out
-      pub keeping_off : ((k : K) → p k x ≡ false) → Keeping K p limit first from old mid t (i + 1)
-      keeping_off fails = record {
-        block = inv.block;
-        has = inv.has;
+      -- a row that does not
+      pub keeping_off : finds cells row false → Keeping slot (i + 1)
+      keeping_off found = record {
+        same = inv.same;
         placed = inv.placed;
         seen = omega (arith, inv.seen);
-        holds = λ k. let l = length_rows old from in inv.holds k ∙ sym (kept_off (p k) (block_rows old from) i x (omega arith) is (fails k));
+        holds = λ passes tells.
+            let l = length_rows start.work.now from in
+            inv.holds passes tells
+            ∙ ap (λ rows. slot_rows start ++ rows) (sym (kept_off passes (block_rows start.work.now from) i (map masked_of row.now) (omega arith) from_start (sym (tells cells row false beyond found))));
       }
 
-    -- at the end
-    module _ (to : Block) (ht : Has to t) where
-      pub keeping_placed : Placed limit first from.width old mid to
-      keeping_placed = placed_same inv.block to t inv.has ht limit first from.width old mid inv.placed
-
-      pub keeping_all : from.count ≤ i → (k : K) → block_rows mid to ≡ filter (p k) (block_rows old from)
-      keeping_all h k =
-          let l = length_rows old from in
-          rows_same to inv.block t ht inv.has mid ∙ inv.holds k ∙ ap (filter (p k)) (take_all i (block_rows old from) (omega arith))
+    pub keeping_all : from.count ≤ i → (passes : List semantics.Masked → Bool) → Tells finds start passes → slot_rows slot ≡ slot_rows start ++ filter passes (block_rows start.work.now from)
+    keeping_all h passes tells =
+        let l = length_rows start.work.now from in
+        inv.holds passes tells ∙ ap (λ rows. slot_rows start ++ filter passes rows) (take_all i (block_rows start.work.now from) (omega arith))

@@ -1,5 +1,5 @@
 -- The certain and the possible rows of a query, once all answers are found.
-use Rattle.std.proofs.Common.{◌≡◌, ℕ, zero, suc, ◌+◌, ◌-◌, ◌<◌, Bool, true, false, cond, not, ltb, List, [], ◌∷◌, ◌++◌, length, get_or, replicate, Some, None, filter, Option, sym, refl, ap, ◌∙◌, ap₂, arith}
+use Rattle.std.proofs.Common.{◌≡◌, ℕ, zero, suc, ◌+◌, ◌-◌, ◌<◌, Bool, true, false, cond, not, ltb, List, [], ◌∷◌, ◌++◌, length, get_or, replicate, Some, None, filter, Option, Ok, sym, refl, ap, ◌∙◌, subst, ap₂, arith}
 use Rattle.std.proofs.lemmas.List.{length_push, get_or_push}
 use Rattle.std.proofs.lemmas.Bool.{ltb-false}
 use Rattle.semantics.specs.declared.kind.Column.{Column}
@@ -14,6 +14,9 @@ use Rattle.workspace.specs.declared.block.Block.{Block}
 use Rattle.workspace.specs.Blocks.{block_rows}
 use Rattle.answer.specs.declared.bound.Bound.TheVariants.{Low, High}
 use Rattle.answer.specs.Bounds.{answer_of, takes_out, slot}
+use Rattle.semantics.specs.Views as semantics
+use Rattle.answer.specs.declared.found.Rows.{Rows}
+use Rattle.answer.specs.Answering.{RowsFound}
 use Rattle.answer.specs.Memos.{Sound, Held, TooLong}
 use Rattle.answer.specs.Places.{Untouched, Apart}
 use Rattle.answer.specs.Steps.{relation}
@@ -86,3 +89,7 @@ module _ (columns : List (List Column)) (v : View) (q node : Tree) (is : node �
 
   pub possible-are : (b : Block) → block_rows new b ≡ filter (λ x. not (some (takes_out High x) (block_rows old certain))) (block_rows old all) → block_rows new b ≡ answers.possible (view_tables v) q
   possible-are b e = e ∙ ap₂ (λ ys xs. filter (λ x. not (some (takes_out High x) ys)) xs) low_rows_lem high-rows
+
+-- what is left behind the borrow of a slot
+pub found_behind : (limit : ℕ) (tables : List (List (List semantics.Masked))) (q : Tree) (there left : List Masked) (rows : Rows) → left ≡ there → RowsFound limit tables q there (Ok rows) → RowsFound limit tables q left (Ok rows)
+found_behind limit tables q there left rows e f = subst (λ w. RowsFound limit tables q w (Ok rows)) (sym e) f

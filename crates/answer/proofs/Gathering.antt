@@ -1,34 +1,26 @@
--- Loops that go over some rows and put each into a block, unless it is there.
-use Rattle.std.proofs.Common.{◌≡◌, ℕ, ◌+◌, ◌<◌, ◌≤◌, List, [], ◌∷◌, ◌++◌, map, length, get_or, take, drop, Some, None, Option, sym, refl, ap, ◌∙◌, arith}
+-- The loop that goes over some rows and puts each into a slot, unless it is there.
+use Rattle.std.proofs.Common.{◌≡◌, ℕ, ◌+◌, ◌<◌, ◌≤◌, List, [], ◌∷◌, ◌++◌, map, length, get_or, take, drop, Some, None, Option, sym, refl, ap, ◌∙◌, subst, arith}
+use Rattle.std.specs.Borrow.{Bor}
 use Rattle.std.proofs.lemmas.List.{append_assoc, append-nil, take_all, length-map, get_or-map}
 use Rattle.book.proofs.Tabled.{length_tabled, slice_index_or_tabled}
 use Rattle.semantics.specs.Answers.{without_repeats, picked}
-use Rattle.semantics.specs.Lists.{tabled}
 use Rattle.semantics.specs.Views as semantics
 use Rattle.view.specs.declared.masked.Masked.{Masked}
 use Rattle.view.specs.declared.view.View.{View}
 use Rattle.view.specs.Views.{masked_of, masked_at, row_in, table_in, view_tables, count_in, width_in}
 use Rattle.view.proofs.Memory.{row-known}
 use Rattle.workspace.specs.declared.block.Block.{Block}
-use Rattle.workspace.specs.Blocks.{row_at, block_rows}
-use Rattle.workspace.proofs.Reading.{length_rows}
+use Rattle.workspace.specs.Blocks.{block_rows}
+use Rattle.answer.specs.declared.row.Row.{Row}
+use Rattle.answer.specs.declared.slot.Slot.{Slot}
 use Rattle.answer.specs.Places.{Untouched, Apart, Placed, Makes, inserted}
+use Rattle.answer.specs.Rows.{row_of}
+use Rattle.answer.specs.Slots.{Same, Fills, Lists, slot_rows}
 use Rattle.answer.proofs.Places.{untouched-same, block_apart}
-use Rattle.answer.proofs.Loops.{untouched-after, placed-after, without-longer, inserts_more, inserts_full, seen_more, seen-rest}
+use Rattle.answer.proofs.Loops.{placed-after, untouched-after, without-longer, inserts_more, inserts_full, seen_more, seen-rest}
 
 abbrev Rows : Type 0
 Rows = List (List semantics.Masked)
-
--- a row of a block that is apart from what was written
-module _ (first limit : ℕ) (old mid : List Masked) (from : Block) (u : Untouched first limit old mid) (a : Apart first limit from) (i : ℕ) where
-  pub row_kept : get_or (block_rows mid from) i [] ≡ get_or (block_rows old from) i []
-  row_kept = ap (λ rows. get_or rows i []) (block_apart first limit old mid from u a)
-
-  -- some columns of it
-  pub picked-kept : (columns : List ℕ) (row : List semantics.Masked) → i < from.count → row ≡ get_or (block_rows mid from) i [] → picked columns row ≡ get_or (map (picked columns) (block_rows old from)) i []
-  picked-kept columns row h is =
-      let l = length_rows old from in
-      ap (picked columns) (is ∙ row_kept) ∙ sym (get_or-map (picked columns) (block_rows old from) i [] [] (omega arith))
 
 -- a row of a view is as wide as its table
 pub row_of_table : (v : View) (t r : ℕ) (xs : List Masked) → r < length (get_or (view_tables v) t []) → map masked_of xs ≡ get_or (get_or (view_tables v) t []) r [] → length xs ≡ width_in v t
@@ -64,46 +56,70 @@ module _ (limit first width : ℕ) (old mid : List Masked) (to : Block) (given s
           let g = seen-rest src i x h is in
           inserts_full limit first width old mid new to (given ++ take i src) x before (drop (i + 1) src) (given ++ src) (cc) m
 
--- the rows of one source and then those of another
-module _ (limit first width : ℕ) (old mid : List Masked) where
-  pub gathered-early : (xs ys : Rows) → Makes limit first width (without_repeats xs) old mid None → Makes limit first width (without_repeats (xs ++ ys)) old mid None
-  gathered-early xs ys m = let l = without-longer xs ys in (omega (arith, m.0), m.1)
+-- The loop of a slot.
+module _ (finds : Bor (List Masked) → ℕ → Row → Type 0) (start : Slot) (count : ℕ) where
+  -- The rows before number `i` stand in the slot, without repeats.
+  pub record Gathering (slot : Slot) (i : ℕ) : Type 0 where
+    pub same : Same start slot
+    pub placed : Placed start.limit start.rows.first start.rows.width start.work.now slot.work.now slot.rows
+    pub holds : (given src : Rows) → slot_rows start ≡ without_repeats given → length src ≡ count → Lists finds start src → slot_rows slot ≡ without_repeats (given ++ take i src)
 
-  pub gathered-twice : (new : List Masked) (to : Block) (rows : Rows) → Placed limit first width old mid to → (r : Option Block) → Makes limit to.first to.width rows mid new r → Makes limit first width rows old new r
-  gathered-twice new to rows p (Some b) m = (placed-after limit first width old mid new to p b m.0, m.1)
-  gathered-twice new to rows p None m = (m.0, untouched-after limit first width old mid new to p m.1)
+  pub gathering_none : Gathering start 0
+  gathering_none = record {
+    same = record { reference = refl; limit_kept = refl };
+    placed = record { begins = refl; few = start.few; wide = refl; untouched = untouched-same start.rows.first start.limit start.work.now };
+    holds = λ given src e l lists. e ∙ ap without_repeats (sym (append-nil given));
+  }
 
--- The same of a block that is known by its numbers.
-pub record Stands (limit first width : ℕ) (rows : Rows) (old new : List Masked) (f n w : ℕ) : Type 0 where
-  pub begins : f ≡ first
-  pub few : n ≤ limit
-  pub wide : w ≡ width
-  pub untouched : Untouched first limit old new
-  pub holds : tabled (λ r. row_at new w (f + r)) n ≡ rows
+  module _ (slot : Slot) (i : ℕ) (inv : Gathering slot i) where
+    pub gathering_all : count ≤ i → (given src : Rows) → slot_rows start ≡ without_repeats given → length src ≡ count → Lists finds start src → Fills (without_repeats (given ++ src)) start slot (Some tt)
+    gathering_all h given src e l lists =
+        gathered-all start.limit start.rows.first start.rows.width start.work.now slot.work.now slot.rows given src i (inv.placed, inv.holds given src e l lists) (omega arith)
 
-module _ (limit first width : ℕ) (rows : Rows) (old new : List Masked) (b : Block) where
-  stands : Makes limit first width rows old new (Some b) → Stands limit first width rows old new b.first b.count b.width
-  unfolding block_rows
-  stands m = record { begins = m.0.begins; few = m.0.few; wide = m.0.wide; untouched = m.0.untouched; holds = m.1 }
+    module _ (h : i < count) (cells : Bor (List Masked)) (here : cells.now ≡ slot.work.now) (row : Row) (found : finds cells i row) (x : List semantics.Masked) (is : x ≡ row_of row) (new : Slot) where
+      beyond : Untouched start.rows.first start.limit start.work.now cells.now
+      beyond = subst (λ w. Untouched start.rows.first start.limit start.work.now w) (sym here) inv.placed.untouched
 
-  made : Stands limit first width rows old new b.first b.count b.width → Makes limit first width rows old new (Some b)
-  unfolding block_rows
-  made s = (record { begins = s.begins; few = s.few; wide = s.wide; untouched = s.untouched }, s.holds)
+      pub gathering_more : (done : Unit {0}) → Same slot new → Fills (inserted (slot_rows slot) x) slot new (Some done) → Gathering new (i + 1)
+      gathering_more done same fills =
+          let m : Makes start.limit slot.rows.first slot.rows.width (inserted (slot_rows slot) x) slot.work.now new.work.now (Some new.rows)
+          = subst (λ n. Makes n slot.rows.first slot.rows.width (inserted (slot_rows slot) x) slot.work.now new.work.now (Some new.rows)) inv.same.limit_kept fills in
+          record {
+            same = record { reference = same.reference ∙ inv.same.reference; limit_kept = same.limit_kept ∙ inv.same.limit_kept };
+            placed = placed-after start.limit start.rows.first start.rows.width start.work.now slot.work.now new.work.now slot.rows inv.placed new.rows m.0;
+            holds = λ given src e l lists.
+                (gathered-more start.limit start.rows.first start.rows.width start.work.now slot.work.now slot.rows given src i (inv.placed, inv.holds given src e l lists) new.work.now x (omega arith)
+                (is ∙ lists cells i row beyond (omega arith) found) new.rows m).1;
+          }
 
-module _ (limit first width : ℕ) (old : List Masked) where
-  pub stands-none : (w : ℕ) → w ≡ width → Stands limit first width [] old old first 0 w
-  stands-none w e = record { begins = refl; few = omega arith; wide = e; untouched = untouched-same first limit old; holds = refl }
+      pub gathering_full : Fills (inserted (slot_rows slot) x) slot new None → (given src : Rows) → slot_rows start ≡ without_repeats given → length src ≡ count → Lists finds start src
+          → Fills (without_repeats (given ++ src)) start new None
+      gathering_full fills given src e l lists =
+          let m : Makes start.limit slot.rows.first slot.rows.width (inserted (slot_rows slot) x) slot.work.now new.work.now None
+          = subst (λ n. Makes n slot.rows.first slot.rows.width (inserted (slot_rows slot) x) slot.work.now new.work.now None) inv.same.limit_kept fills in
+          gathered-full start.limit start.rows.first start.rows.width start.work.now slot.work.now slot.rows given src i (inv.placed, inv.holds given src e l lists) new.work.now x (omega arith)
+          (is ∙ lists cells i row beyond (omega arith) found) m
 
-  module _ (mid : List Masked) (to : Block) (src : Rows) (i : ℕ) (before : Stands limit first width (without_repeats (take i src)) old mid to.first to.count to.width) where
-    makes : Makes limit first width (without_repeats (take i src)) old mid (Some to)
-    makes = made limit first width (without_repeats (take i src)) old mid to before
+-- Two sources, one after the other.
+pub gathered_early : (limit first width : ℕ) (old new : List Masked) (xs ys : Rows) → Makes limit first width (without_repeats xs) old new None → Makes limit first width (without_repeats (xs ++ ys)) old new None
+gathered_early limit first width old new xs ys m = let l = without-longer xs ys in (omega (arith, m.0), m.1)
 
-    pub stands-all : length src ≤ i → Makes limit first width (without_repeats src) old mid (Some to)
-    stands-all = gathered-all limit first width old mid to [] src i makes
+module _ (start mid new : Slot) (same : Same start mid) (placed : Placed start.limit start.rows.first start.rows.width start.work.now mid.work.now mid.rows) (rows : Rows) where
+  pub fills_after : (r : Option (Unit {0})) → Fills rows mid new r → Fills rows start new r
+  fills_after (Some done) m =
+      let p = subst (λ n. Makes n mid.rows.first mid.rows.width rows mid.work.now new.work.now (Some new.rows)) same.limit_kept m in
+      (placed-after start.limit start.rows.first start.rows.width start.work.now mid.work.now new.work.now mid.rows placed new.rows p.0, p.1)
+  fills_after None m =
+      let p = subst (λ n. Makes n mid.rows.first mid.rows.width rows mid.work.now new.work.now None) same.limit_kept m in
+      (p.0, untouched-after start.limit start.rows.first start.rows.width start.work.now mid.work.now new.work.now mid.rows placed p.1)
 
-    module _ (new : List Masked) (x : List semantics.Masked) (h : i < length src) (is : x ≡ get_or src i []) where
-      pub stands-more : (b : Block) → Makes limit to.first to.width (inserted (block_rows mid to) x) mid new (Some b) → Stands limit first width (without_repeats (take (i + 1) src)) old new b.first b.count b.width
-      stands-more b m = stands limit first width (without_repeats (take (i + 1) src)) old new b (gathered-more limit first width old mid to [] src i makes new x h is b m)
+-- a row of a block that is apart from what was written
+module _ (slot : Slot) (cells : List Masked) (from : Block) (u : Untouched slot.rows.first slot.limit slot.work.now cells) (a : Apart slot.rows.first slot.limit from) (i : ℕ) where
+  pub row_kept : get_or (block_rows cells from) i [] ≡ get_or (block_rows slot.work.now from) i []
+  row_kept = ap (λ rows. get_or rows i []) (block_apart slot.rows.first slot.limit slot.work.now cells from u a)
 
-      pub stands-full : Makes limit to.first to.width (inserted (block_rows mid to) x) mid new None → Makes limit first width (without_repeats src) old new None
-      stands-full = gathered-full limit first width old mid to [] src i makes new x h is
+  -- some columns of it
+  pub picked_kept : (columns : List ℕ) → i < length (map (picked columns) (block_rows slot.work.now from)) → picked columns (get_or (block_rows cells from) i []) ≡ get_or (map (picked columns) (block_rows slot.work.now from)) i []
+  picked_kept columns h =
+      let m = length-map (block_rows slot.work.now from) (picked columns) in
+      ap (picked columns) row_kept ∙ sym (get_or-map (picked columns) (block_rows slot.work.now from) i [] [] (omega arith))

@@ -10,7 +10,7 @@ use Rattle.view.specs.declared.masked.Masked.{Masked}
 use Rattle.workspace.specs.declared.block.Block.{Block}
 use Rattle.workspace.specs.Blocks.{block_rows}
 use Rattle.answer.specs.Places.{Untouched, Placed, Makes, inserted}
-use Rattle.answer.proofs.Places.{untouched-same, untouched-more}
+use Rattle.answer.proofs.Places.{untouched-more}
 
 abbrev Rows : Type 0
 Rows = List (List semantics.Masked)
@@ -27,14 +27,6 @@ module _ (limit first width : ℕ) (old mid new : List Masked) (to : Block) (bef
     wide = p.wide ∙ before.wide;
     untouched = untouched-after p.untouched;
   }
-
--- a block without rows
-pub placed-none : (limit first width : ℕ) (old : List Masked) (b : Block) → b.first ≡ first → b.count ≡ 0 → b.width ≡ width → Placed limit first width old old b
-placed-none limit first width old b e f g = record { begins = e; few = omega arith; wide = g; untouched = untouched-same first limit old }
-
-pub rows_none : (old : List Masked) (b : Block) → b.count ≡ 0 → block_rows old b ≡ []
-unfolding block_rows
-rows_none old b e = rw e
 
 -- Rows without repeats: each row goes behind the others, unless it is there.
 inserted-is : (done : Rows) (x : List semantics.Masked) → inserted (without_repeats done) x ≡ without_repeats (done ++ x ∷ [])

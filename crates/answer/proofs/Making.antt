@@ -15,8 +15,10 @@ use Rattle.workspace.specs.declared.block.Block.{Block}
 use Rattle.workspace.specs.Blocks.{block_rows}
 use Rattle.answer.specs.declared.bound.Bound.{Bound}
 use Rattle.answer.specs.Bounds.{answer_of, other, keeps, takes_out, slot}
-use Rattle.answer.specs.Memos.{Held, There, InSlot}
+use Rattle.answer.specs.Memos.{Held, There}
+use Rattle.answer.specs.declared.slot.Slot.{Slot}
 use Rattle.answer.specs.Places.{Placed, Makes}
+use Rattle.answer.specs.Slots.{Empty}
 use Rattle.answer.specs.Steps.{relation}
 use Rattle.answer.proofs.Relations.{answer-table, answer-select, answer-project, answer-product, answer-union, answer-difference}
 
@@ -26,10 +28,19 @@ pub makes_as : (limit first first' width width' : ℕ) (rows rows' : List (List 
 makes_as limit first first' width width' rows rows' old new r e f g m =
     subst (λ x. Makes limit x width' rows' old new r) e (subst (λ x. Makes limit first x rows' old new r) f (subst (λ x. Makes limit first width x old new r) g m))
 
-pub makes-placed : (limit first first' width : ℕ) (rows : List (List semantics.Masked)) (old new : List Masked) (r : Option Block)
-    → first ≡ first' → Makes limit first width rows old new r → InSlot limit first' r
-makes-placed limit first first' width rows old new None e m = tt
-makes-placed limit first first' width rows old new (Some b) e m = (m.0.begins ∙ e, m.0.few)
+-- what a slot that began without rows was made to hold
+pub made_in : (limit first w width : ℕ) (cells : List Masked) (slot : Slot) → Empty limit first w cells slot → w ≡ width → (rows : List Masked → List (List semantics.Masked)) (new : List Masked) (r : Option Block)
+    → Makes slot.limit slot.rows.first slot.rows.width (rows slot.work.now) slot.work.now new r → Makes limit first width (rows cells) cells new r
+made_in limit first w width cells slot e f rows new r m =
+    subst (λ x. Makes x first width (rows cells) cells new r) e.limit_is
+    (subst (λ x. Makes slot.limit x width (rows cells) cells new r) e.begins
+    (subst (λ x. Makes slot.limit slot.rows.first x (rows cells) cells new r) (e.wide ∙ f)
+    (subst (λ x. Makes slot.limit slot.rows.first slot.rows.width (rows x) x new r) e.cells_are m)))
+
+-- what is left behind the borrow of a slot
+pub left_behind : (columns : List (List Column)) (v : View) (limit first : ℕ) (bound : Bound) (node : Tree) (cells there left : List Masked) (r : Option Block) → left ≡ there
+    → Makes limit first (length (kinds_of columns node)) (answer_of bound (view_tables v) node) cells there r → Makes limit first (length (kinds_of columns node)) (answer_of bound (view_tables v) node) cells left r
+left_behind columns v limit first bound node cells there left r e m = subst (λ w. Makes limit first (length (kinds_of columns node)) (answer_of bound (view_tables v) node) cells w r) (sym e) m
 
 -- the block holds an answer
 pub record Stands (columns : List (List Column)) (tables : List (List (List semantics.Masked))) (bound : Bound) (q : Tree) (cells : List Masked) (b : Block) : Type 0 where

@@ -1,6 +1,8 @@
 pub mod Bounds
 pub mod Rows
 pub mod Places
+pub mod Selecting
+pub mod Slots
 pub mod Steps
 pub mod Memos
 pub mod Answering

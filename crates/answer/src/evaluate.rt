@@ -9,14 +9,9 @@ ghost use Rattle.answer.specs.Places.{Makes};
 ghost use Rattle.answer.specs.Steps.{relation, StepOf, Lower};
 
 use crate::bound::Bound;
-use crate::difference::difference;
-use crate::product::product;
-use crate::project::project;
-use crate::select::select;
+use crate::slot::Slot;
 use crate::step::Step;
-use crate::table::table;
 use crate::task::Task;
-use crate::union::union;
 use view::Masked;
 use workspace::Block;
 
@@ -59,22 +54,30 @@ impl Task<'_, '_, '_> {
         let limit = self.limit;
         let first = bound.slot(number) * limit;
         match step {
-            Step::Table(t) => table(self.view, work, limit, first, t),
+            Step::Table(t) => {
+                let width = self.view.width(t);
+                let mut slot = Slot::empty(work, limit, first, width);
+                slot.table(self.view, t)
+            }
             Step::Select(l, condition) => {
                 let from = part(memo, limit, bound.slot(l));
-                Some(select(bound, work, limit, first, from, condition))
+                let mut slot = Slot::empty(work, limit, first, from.width);
+                Some(slot.select(bound, from, condition))
             }
             Step::Project(l, columns) => {
                 let from = part(memo, limit, bound.slot(l));
-                project(work, limit, first, from, columns)
+                let mut slot = Slot::empty(work, limit, first, columns.len());
+                slot.project(from, columns)
             }
             Step::Product(l, r) => {
                 let left = part(memo, limit, bound.slot(l));
                 let right = part(memo, limit, bound.slot(r));
-                if left.width + right.width > 8 {
+                let width = left.width + right.width;
+                if width > 8 {
                     return None;
                 }
-                product(work, limit, first, left, right)
+                let mut slot = Slot::empty(work, limit, first, width);
+                slot.product(left, right)
             }
             Step::Union(l, r) => {
                 let left = part(memo, limit, bound.slot(l));
@@ -82,12 +85,14 @@ impl Task<'_, '_, '_> {
                 if right.width != left.width {
                     return None;
                 }
-                union(work, limit, first, left, right)
+                let mut slot = Slot::empty(work, limit, first, left.width);
+                slot.union(left, right)
             }
             Step::Difference(l, r) => {
                 let left = part(memo, limit, bound.slot(l));
                 let right = part(memo, limit, bound.other().slot(r));
-                Some(difference(bound, work, limit, first, left, right))
+                let mut slot = Slot::empty(work, limit, first, left.width);
+                Some(slot.difference(bound, left, right))
             }
         }
     }

@@ -1,16 +1,17 @@
-ghost use Rattle.std.specs.Prelude.{◌≡◌, ◌+◌, ◌<◌, ◌≤◌, [], ◌∷◌, ◌++◌, map, length};
+ghost use Rattle.std.specs.Prelude.{◌≡◌, ◌+◌, ◌*◌, ◌<◌, ◌≤◌, [], ◌++◌, map, length, slice_index_or};
 ghost use Rattle.semantics.specs.Answers.{picked};
-ghost use Rattle.semantics.specs.Truths.{cell_at};
 ghost use Rattle.view.specs.Views.{masked_of};
+ghost use Rattle.workspace.specs.Blocks.{block_rows};
 ghost use Rattle.answer.specs.Rows.{row_of};
 
 use crate::row::Row;
 use cells::Cell;
-use view::Masked;
+use view::{Masked, cell_at};
+use workspace::Block;
 
 impl Row {
     /// A row without cells.
-    fn empty() -> Row
+    pub(crate) fn empty() -> Row
         ensures { (row_of result ≡ []) × (result.width ≡ 0) }
     {
         Row {
@@ -42,6 +43,14 @@ impl Row {
         row
     }
 
+    /// A copy of a row of a block, without cells where the block has no row of this number.
+    pub(crate) fn at(block: Block, work: &[Masked], number: usize) -> Row
+        ensures row { row_of result ≡ slice_index_or (block_rows work.now block) number [] }
+        ensures wide { number < block.count → 8 * (block.first + block.count) ≤ length work.now → result.width ≡ block.width }
+    {
+        Row::of(block.row(work, number))
+    }
+
     /// This row and then some cells.
     pub(crate) fn joined(&self, cells: &[Masked]) -> Row
         requires { self.now.width + length cells.now ≤ 8 }
@@ -69,19 +78,8 @@ impl Row {
     {
         let mut row = Row::empty();
         for column in columns {
-            row.append(&[cell_at(cells, *column as usize)]);
+            row.append(&[cell_at(cells, *column)]);
         }
         row
-    }
-}
-
-/// The cell of a column, the number 0 where there is none.
-fn cell_at(cells: &[Masked], column: usize) -> Masked
-    ensures { masked_of result ≡ cell_at (map masked_of cells.now) column }
-{
-    if column < cells.len() {
-        cells[column]
-    } else {
-        Masked::Value(Cell::Number(0))
     }
 }

@@ -8,9 +8,9 @@ ghost use Rattle.answer.specs.Answering.{RowsFound};
 ghost use Rattle.answer.specs.Memos.{Over};
 
 use crate::bound::Bound;
-use crate::difference::difference;
 use crate::evaluate::part;
 use crate::overfull::overfull;
+use crate::slot::Slot;
 use crate::task::Task;
 use semantics::Refusal;
 use view::Masked;
@@ -54,6 +54,7 @@ pub(crate) fn found(task: Task, work: &mut [Masked]) -> Result<Rows, Refusal>
     let certain = part(&memo, task.limit, Bound::Low.slot(root));
     let all = part(&memo, task.limit, Bound::High.slot(root));
     let first = spare(root) * task.limit;
-    let possible = difference(Bound::High, work, task.limit, first, all, certain);
+    let mut slot = Slot::empty(work, task.limit, first, all.width);
+    let possible = slot.difference(Bound::High, all, certain);
     Ok(Rows { certain, possible })
 }

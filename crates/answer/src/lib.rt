@@ -4,9 +4,12 @@
 
 mod bound;
 mod difference;
+mod empty;
 mod evaluate;
 mod fetch;
 mod found;
+mod gather;
+mod keep;
 mod meet;
 mod overfull;
 mod product;
@@ -15,6 +18,7 @@ mod push;
 mod respond;
 mod row;
 mod select;
+mod slot;
 mod step;
 mod table;
 mod task;

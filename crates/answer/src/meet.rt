@@ -5,20 +5,21 @@ ghost use Rattle.workspace.specs.Blocks.{block_rows};
 ghost use Rattle.answer.specs.Bounds.{takes_out};
 
 use crate::bound::Bound;
-use rows::{compatible, same_row};
+use rows::compatible;
 use view::Masked;
 use workspace::Block;
 
 impl Bound {
     /// Whether a right row takes a left row out of a difference: in the low answer if it may be the
     /// same row, in the high answer if it is.
+    #[tactic(auto, using(view::proofs::Same::equal_rows))]
     fn takes_out(self, row: &[Masked], other: &[Masked]) -> bool
         requires { length row.now ≤ 8 }
         ensures { result ≡ takes_out self (map masked_of row.now) (map masked_of other.now) }
     {
         match self {
             Bound::Low => compatible(row, other),
-            Bound::High => same_row(row, other),
+            Bound::High => row == other,
         }
     }
 
@@ -27,11 +28,6 @@ impl Bound {
         requires { length row.now ≤ 8 }
         ensures { result ≡ some (takes_out self (map masked_of row.now)) (block_rows work.now block) }
     {
-        for r in 0..block.count {
-            if self.takes_out(row, block.row(work, r)) {
-                return true;
-            }
-        }
-        false
+        block.rows(work).any(|other| self.takes_out(row, other))
     }
 }

@@ -1,34 +1,26 @@
-ghost use Rattle.std.specs.Prelude.{◌+◌, ◌*◌, ◌≤◌, map, length};
+ghost use Rattle.std.specs.Prelude.{◌≡◌, ◌≤◌, map, length};
 ghost use Rattle.semantics.specs.Answers.{without_repeats, picked};
 ghost use Rattle.workspace.specs.Blocks.{block_rows};
-ghost use Rattle.answer.specs.Places.{Apart, Makes};
+ghost use Rattle.answer.specs.Places.{Makes};
+ghost use Rattle.answer.specs.Slots.{Same, Beside};
 
-use crate::push::insert;
 use crate::row::Row;
-use view::Masked;
+use crate::slot::Slot;
 use workspace::Block;
 
-/// The listed columns of the rows of a block, without repeats; none where there are more than `limit`.
-pub(crate) fn project(
-    work: &mut [Masked],
-    limit: usize,
-    first: usize,
-    from: Block,
-    columns: &[u8],
-) -> Option<Block>
-    requires room { (8 * (first + limit) ≤ length work.old) × (first + limit ≤ 15360) }
-    requires apart { Apart first limit from }
-    requires few { length columns.now ≤ 8 }
-    ensures { Makes limit first (length columns.now) (without_repeats (map (picked columns.now) (block_rows work.old from))) work.old work.new result }
-{
-    let mut to = Block {
-        first,
-        count: 0,
-        width: columns.len(),
-    };
-    for number in 0..from.count {
-        let row = Row::picked(from.row(work, number), columns);
-        to = insert(work, limit, to, row.cells())?;
+impl Slot<'_> {
+    /// The listed columns of the rows of a block, without repeats; none where there are too many.
+    pub(crate) fn project(&mut self, from: Block, columns: &[u8]) -> Option<Block>
+        requires none { self.old.rows.count ≡ 0 }
+        requires beside { Beside self.old from }
+        requires few { length columns.now ≤ 8 }
+        requires wide { length columns.now ≡ self.old.rows.width }
+        ensures same { Same self.old self.new }
+        ensures makes { Makes self.old.limit self.old.rows.first self.old.rows.width (without_repeats (map (picked columns.now) (block_rows self.old.work.now from))) self.old.work.now self.new.work.now result }
+    {
+        self.gather(from.count, |work, number| {
+            Row::picked(from.row(work, number), columns)
+        })?;
+        Some(self.rows)
     }
-    Some(to)
 }

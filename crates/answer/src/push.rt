@@ -1,42 +1,64 @@
-ghost use Rattle.std.specs.Prelude.{◌≡◌, ◌+◌, ◌*◌, ◌<◌, ◌≤◌, [], ◌∷◌, ◌++◌, map, length};
+ghost use Rattle.std.specs.Prelude.{◌≡◌, ◌+◌, ◌*◌, ◌<◌, ◌≤◌, [], map, length, slice_index_or};
+ghost use Rattle.semantics.specs.Answers.{same_row};
+ghost use Rattle.semantics.specs.Lists.{some};
 ghost use Rattle.view.specs.Views.{masked_of};
 ghost use Rattle.workspace.specs.Blocks.{block_rows};
-ghost use Rattle.answer.specs.Places.{Untouched, Pushed, Makes, inserted};
+ghost use Rattle.answer.specs.Places.{Pushed, inserted};
+ghost use Rattle.answer.specs.Rows.{row_of};
+ghost use Rattle.answer.specs.Slots.{Same, Fills, slot_rows};
 
-use crate::bound::Bound;
+use crate::row::Row;
+use crate::slot::Slot;
 use view::Masked;
 use workspace::Block;
 
-/// Puts a row behind those of a block of fewer than `limit` rows.
-pub(crate) fn push(work: &mut [Masked], limit: usize, to: Block, row: &[Masked]) -> Block
-    requires room { (8 * (to.first + limit) ≤ length work.old) × (to.first + limit ≤ 15360) }
-    requires few { to.count < limit }
-    requires wide { length row.now ≡ to.width }
-    ensures { Pushed limit to (map masked_of row.now) work.old work.new result }
-{
-    let start = 8 * (to.first + to.count);
-    let end = start + row.len();
-    work[start..end].copy_from_slice(row);
-    Block {
-        first: to.first,
-        count: to.count + 1,
-        width: to.width,
+impl Slot<'_> {
+    /// Puts a row behind the others; there is room for it.
+    pub(crate) fn push(&mut self, row: &[Masked])
+        requires few { self.old.rows.count < self.old.limit }
+        requires wide { length row.now ≡ self.old.rows.width }
+        ensures same { Same self.old self.new }
+        ensures pushed { Pushed self.old.limit self.old.rows (map masked_of row.now) self.old.work.now self.new.work.now self.new.rows }
+    {
+        let start = 8 * (self.rows.first + self.rows.count);
+        let end = start + row.len();
+        self.work[start..end].copy_from_slice(row);
+        self.rows = Block {
+            first: self.rows.first,
+            count: self.rows.count + 1,
+            width: self.rows.width,
+        };
     }
-}
 
-/// Puts a row behind those of a block, unless one of them is identical to it; none where there are
-/// `limit` rows already.
-pub(crate) fn insert(work: &mut [Masked], limit: usize, to: Block, row: &[Masked]) -> Option<Block>
-    requires room { (8 * (to.first + limit) ≤ length work.old) × (to.first + limit ≤ 15360) }
-    requires few { to.count ≤ limit }
-    requires wide { length row.now ≡ to.width }
-    ensures { Makes limit to.first to.width (inserted (block_rows work.old to) (map masked_of row.now)) work.old work.new result }
-{
-    if Bound::High.some_takes_out(work, to, row) {
-        return Some(to);
+    /// A copy of a row of a block, without cells where the block has no row of this number.
+    pub(crate) fn copy(&self, from: Block, number: usize) -> Row
+        ensures row { row_of result ≡ slice_index_or (block_rows self.now.work.now from) number [] }
+        ensures wide { number < from.count → 8 * (from.first + from.count) ≤ length self.now.work.now → result.width ≡ from.width }
+    {
+        Row::at(from, self.work, number)
     }
-    if to.count == limit {
-        return None;
+
+    /// Whether a row is identical to one of the rows.
+    fn has(&self, row: &[Masked]) -> bool
+        ensures { result ≡ some (same_row (map masked_of row.now)) (slot_rows self.now) }
+    {
+        self.rows.rows(self.work).any(|other| row == other)
     }
-    Some(push(work, limit, to, row))
+
+    /// Puts a row behind the others, unless one of them is identical to it; none where there is no
+    /// room for it.
+    pub(crate) fn insert(&mut self, row: &[Masked]) -> Option<()>
+        requires wide { length row.now ≡ self.old.rows.width }
+        ensures same { Same self.old self.new }
+        ensures fills { Fills (inserted (slot_rows self.old) (map masked_of row.now)) self.old self.new result }
+    {
+        if self.has(row) {
+            return Some(());
+        }
+        if self.rows.count == self.limit {
+            return None;
+        }
+        self.push(row);
+        Some(())
+    }
 }

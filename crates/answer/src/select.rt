@@ -1,47 +1,44 @@
-ghost use Rattle.std.specs.Prelude.{◌≡◌, ◌+◌, ◌*◌, ◌≤◌, length, filter};
+ghost use Rattle.std.specs.Prelude.{◌≡◌, ◌≤◌, map, filter};
 ghost use Rattle.semantics.specs.declared.refusal.Refusal.{Refusal};
 ghost use Rattle.semantics.specs.Conditions.{Condition};
 ghost use Rattle.semantics.specs.Outcomes.{done};
 ghost use Rattle.semantics.specs.Reading.{condition_form};
 ghost use Rattle.semantics.specs.Truths.{truth};
+ghost use Rattle.view.specs.Views.{masked_of};
 ghost use Rattle.workspace.specs.Blocks.{block_rows};
 ghost use Rattle.answer.specs.Bounds.{keeps};
-ghost use Rattle.answer.specs.Places.{Apart, Placed};
+ghost use Rattle.answer.specs.Places.{Placed};
+ghost use Rattle.answer.specs.Selecting.{Selects};
+ghost use Rattle.answer.specs.Slots.{Same, Beside};
 
 use crate::bound::Bound;
-use crate::push::push;
-use crate::row::Row;
+use crate::slot::Slot;
 use compare::truth;
 use view::Masked;
 use workspace::Block;
 
-/// The rows of a block for which a condition is true, for the high answer also those for which it is
-/// unknown.
-pub(crate) fn select(
-    bound: Bound,
-    work: &mut [Masked],
-    limit: usize,
-    first: usize,
-    from: Block,
-    condition: &[u8],
-) -> Block
-    requires room { (8 * (first + limit) ≤ length work.old) × (first + limit ≤ 15360) }
-    requires apart { Apart first limit from }
-    requires within { 8 * (from.first + from.count) ≤ length work.old }
-    requires few { from.count ≤ limit }
-    ensures placed { Placed limit first from.width work.old work.new result }
-    ensures holds { (e : Refusal) (c : Condition) → condition_form e condition.now ≡ done c → block_rows work.new result ≡ filter (λ x. keeps bound (truth c x)) (block_rows work.old from) }
-{
-    let mut to = Block {
-        first,
-        count: 0,
-        width: from.width,
-    };
-    for number in 0..from.count {
-        let row = Row::of(from.row(work, number));
-        if bound.keeps(truth(condition, row.cells())) {
-            to = push(work, limit, to, row.cells());
-        }
+impl Bound {
+    /// Whether a select with this condition keeps a row.
+    fn selects(self, condition: &[u8], row: &[Masked]) -> bool
+        ensures { Selects self condition.now (map masked_of row.now) result }
+    {
+        self.keeps(truth(condition, row))
     }
-    to
+}
+
+impl Slot<'_> {
+    /// The rows of a block for which a condition is true, for the high answer also those for which it
+    /// is unknown.
+    pub(crate) fn select(&mut self, bound: Bound, from: Block, condition: &[u8]) -> Block
+        requires none { self.old.rows.count ≡ 0 }
+        requires beside { Beside self.old from }
+        requires few { from.count ≤ self.old.limit }
+        requires wide { from.width ≡ self.old.rows.width }
+        ensures same { Same self.old self.new }
+        ensures placed { Placed self.old.limit self.old.rows.first self.old.rows.width self.old.work.now self.new.work.now result }
+        ensures holds { (e : Refusal) (c : Condition) → condition_form e condition.now ≡ done c → block_rows self.new.work.now result ≡ filter (λ x. keeps bound (truth c x)) (block_rows self.old.work.now from) }
+    {
+        self.keep(from, |_, row| bound.selects(condition, row));
+        self.rows
+    }
 }

@@ -1,34 +1,35 @@
-ghost use Rattle.std.specs.Prelude.{◌+◌, ◌*◌, ◌≤◌, [], length, slice_index_or};
+ghost use Rattle.std.specs.Prelude.{◌≡◌, ◌<◌, [], length, slice_index_or};
 ghost use Rattle.semantics.specs.Answers.{without_repeats};
 ghost use Rattle.view.specs.Views.{view_tables, width_in};
 ghost use Rattle.answer.specs.Places.{Makes};
+ghost use Rattle.answer.specs.Rows.{row_of};
+ghost use Rattle.answer.specs.Slots.{Same};
 
-use crate::push::insert;
-use view::{Masked, View};
+use crate::row::Row;
+use crate::slot::Slot;
+use view::View;
 use workspace::Block;
 
-/// The rows of a table of the view, without repeats, from row number `first` of the workspace on;
-/// none where there are more than `limit`.
-pub(crate) fn table(
-    view: &View,
-    work: &mut [Masked],
-    limit: usize,
-    first: usize,
-    table: usize,
-) -> Option<Block>
-    requires room { (8 * (first + limit) ≤ length work.old) × (first + limit ≤ 15360) }
-    ensures { Makes limit first (width_in view.now table) (without_repeats (slice_index_or (view_tables view.now) table [])) work.old work.new result }
+/// A copy of a row of a view.
+fn seen(view: &View, table: usize, number: usize) -> Row
+    ensures row { number < length (slice_index_or (view_tables view.now) table []) → row_of result ≡ slice_index_or (slice_index_or (view_tables view.now) table []) number [] }
+    ensures wide { number < length (slice_index_or (view_tables view.now) table []) → result.width ≡ width_in view.now table }
 {
-    let mut to = Block {
-        first,
-        count: 0,
-        width: view.width(table),
-    };
-    for number in 0..view.row_count(table) {
-        let Some(row) = view.row(table, number) else {
-            return None;
-        };
-        to = insert(work, limit, to, row)?;
+    match view.row(table, number) {
+        Some(row) => Row::of(row),
+        None => Row::empty(),
     }
-    Some(to)
+}
+
+impl Slot<'_> {
+    /// The rows of a table of a view, without repeats; none where there are too many.
+    pub(crate) fn table(&mut self, view: &View, table: usize) -> Option<Block>
+        requires none { self.old.rows.count ≡ 0 }
+        requires wide { width_in view.now table ≡ self.old.rows.width }
+        ensures same { Same self.old self.new }
+        ensures makes { Makes self.old.limit self.old.rows.first self.old.rows.width (without_repeats (slice_index_or (view_tables view.now) table [])) self.old.work.now self.new.work.now result }
+    {
+        self.gather(view.row_count(table), |_, number| seen(view, table, number))?;
+        Some(self.rows)
+    }
 }

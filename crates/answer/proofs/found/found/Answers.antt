@@ -1,13 +1,16 @@
-use Rattle.std.proofs.Common.{◌≡◌, ◌-◌, ◌*◌, ◌<◌, length, sym, refl, ap, ◌∙◌, arith}
+use Rattle.std.proofs.Common.{rules, ◌≡◌, ◌-◌, ◌*◌, ◌<◌, not, length, Some, filter, sym, refl, ap, ◌∙◌, arith}
 use Rattle.semantics.specs.Queries.{nodes}
+use Rattle.semantics.specs.Lists.{some}
+use Rattle.view.specs.Views.{view_tables}
+use Rattle.workspace.specs.Blocks.{block_rows}
 use Rattle.query.proofs.Laying.{nodes-some}
 use Rattle.answer.specs.declared.bound.Bound.TheVariants.{Low, High}
-use Rattle.answer.specs.Bounds.{slot}
+use Rattle.answer.specs.Bounds.{takes_out, slot}
 use Rattle.answer.specs.Steps.{relation}
-use Rattle.answer.proofs.Finding.{sound_none, held_none, not_too_long, root_is, certain-stay, possible-are}
-use Rattle.answer.proofs.Making.{part-stands}
+use Rattle.answer.proofs.Finding.{sound_none, held_none, not_too_long, root_is, certain-stay, possible-are, found_behind}
+use Rattle.answer.proofs.Making.{made_in, part-stands}
 use Rattle.answer.proofs.Settling.{other-slot-apart}
-use Rattle.answer.proofs.Slots.{slot-within, slot-room, block_room}
+use Rattle.answer.proofs.Slots.{slot-within, slot-room, block_room, begun_beside}
 use Rattle.answer.proofs.found.found.Goals as goal
 
 pub overfull-requires : goal.overfull-requires
@@ -33,20 +36,24 @@ returns-in_default-evaluate-2 c columns q over =
     let s = c.in-Some-evaluate.ensures.found columns q over h i.1 in
     absurd (not_too_long c.args.task.limit c.args.task.view.now q (c.count-count.result - 1) h i.0 (c.in_default-evaluate-2.ensures.found columns q over h s.held))
 
-pub difference-possible-requires : goal.difference-possible-requires
-difference-possible-requires c =
+pub empty-slot-requires-clause-room : goal.empty-slot-requires-clause-room
+empty-slot-requires-clause-room c =
+    (slot-room c.args.task.limit c.spare.result c.requires.room.1 c.spare.ensures.low (length c.evaluate-2.new.work) (omega (arith, c.requires.room.0)), slot-within c.args.task.limit c.spare.result c.requires.room.1 c.spare.ensures.low)
+
+pub difference-possible-requires-clause-beside : goal.difference-possible-requires-clause-beside
+difference-possible-requires-clause-beside c =
     let root : c.count-count.result - 1 < 15 = omega (arith, c.count-count.ensures.few, c.if-count-eq0.false) in
     let n = length c.evaluate-2.new.work in
-    let low : c.slot-2.result < 30 = omega (arith, c.slot-2.ensures) in
-    record {
-      room = (slot-room c.args.task.limit c.spare.result c.requires.room.1 c.spare.ensures.low n (omega (arith, c.requires.room.0)), slot-within c.args.task.limit c.spare.result c.requires.room.1 c.spare.ensures.low);
-      apart = (
-        other-slot-apart c.args.task.limit c.slot-2.result c.spare.result c.part-all.result (λ e. c.spare.ensures.free.1 (sym e ∙ c.slot-2.ensures)) c.part-all.ensures.begins c.part-all.ensures.few,
-        other-slot-apart c.args.task.limit c.slot.result c.spare.result c.part-certain.result (λ e. c.spare.ensures.free.0 (sym e ∙ c.slot.ensures)) c.part-certain.ensures.begins c.part-certain.ensures.few,
-      );
-      within = block_room c.args.task.limit c.slot-2.result c.requires.room.1 low n c.part-all.result (omega (arith, c.requires.room.0)) c.part-all.ensures.begins c.part-all.ensures.few;
-      few = c.part-all.ensures.few;
-    }
+    let low : c.slot.result < 30 = omega (arith, c.slot.ensures) in
+    let low-2 : c.slot-2.result < 30 = omega (arith, c.slot-2.ensures) in
+    let first = c.spare.result * c.args.task.limit in (
+      begun_beside c.args.task.limit first c.part-all.result.width c.evaluate-2.new.work c.empty-slot.result c.empty-slot.ensures.empty c.part-all.result
+          (other-slot-apart c.args.task.limit c.slot-2.result c.spare.result c.part-all.result (λ e. c.spare.ensures.free.1 (sym e ∙ c.slot-2.ensures)) c.part-all.ensures.begins c.part-all.ensures.few)
+          (block_room c.args.task.limit c.slot-2.result c.requires.room.1 low-2 n c.part-all.result (omega (arith, c.requires.room.0)) c.part-all.ensures.begins c.part-all.ensures.few),
+      begun_beside c.args.task.limit first c.part-all.result.width c.evaluate-2.new.work c.empty-slot.result c.empty-slot.ensures.empty c.part-certain.result
+          (other-slot-apart c.args.task.limit c.slot.result c.spare.result c.part-certain.result (λ e. c.spare.ensures.free.0 (sym e ∙ c.slot.ensures)) c.part-certain.ensures.begins c.part-certain.ensures.few)
+          (block_room c.args.task.limit c.slot.result c.requires.room.1 low n c.part-certain.result (omega (arith, c.requires.room.0)) c.part-certain.ensures.begins c.part-certain.ensures.few),
+    )
 
 pub returns : goal.returns
 returns c columns q over =
@@ -58,11 +65,15 @@ returns c columns q over =
     let low = part-stands columns c.args.task.view.now q c.evaluate-2.new.work c.evaluate-2.new.memo Low root c.slot.result c.part-certain.result t.held h c.slot.ensures (t.grown (slot Low root) (_, s.here)) c.part-certain.ensures.found in
     let up = part-stands columns c.args.task.view.now q c.evaluate-2.new.work c.evaluate-2.new.memo High root c.slot-2.result c.part-all.result t.held h c.slot-2.ensures (_, t.here) c.part-all.ensures.found in
     let is : relation (nodes q) root ≡ q = ap (λ n. relation (nodes q) (n - 1)) (c.count-count.ensures.value ∙ over.planned.counted) ∙ root_is q in
-    let first = c.spare.result * c.args.task.limit in (
+    let first = c.spare.result * c.args.task.limit in
+    let m = made_in c.args.task.limit first c.part-all.result.width c.part-all.result.width c.evaluate-2.new.work c.empty-slot.result c.empty-slot.ensures.empty refl
+    (λ cells. filter (λ x. not (some (takes_out High x) (block_rows cells c.part-certain.result))) (block_rows cells c.part-all.result)) c.difference-possible.new.self.work.now
+    (Some c.difference-possible.result) (c.difference-possible.ensures.placed, c.difference-possible.ensures.holds) in
+    found_behind c.args.task.limit (view_tables c.args.task.view.now) q c.difference-possible.new.self.work.now _ (record { certain = c.part-certain.result; possible = c.difference-possible.result }) (search rules) (
       sym i.0,
-      certain-stay columns c.args.task.view.now q (relation (nodes q) root) is c.args.task.limit first c.evaluate-2.new.work c.difference-possible.new.work c.part-certain.result c.part-all.result low up
-          c.difference-possible.ensures.placed.untouched
+      certain-stay columns c.args.task.view.now q (relation (nodes q) root) is c.args.task.limit first c.evaluate-2.new.work c.difference-possible.new.self.work.now c.part-certain.result c.part-all.result low up
+          m.0.untouched
           (other-slot-apart c.args.task.limit c.slot.result c.spare.result c.part-certain.result (λ e. c.spare.ensures.free.0 (sym e ∙ c.slot.ensures)) c.part-certain.ensures.begins c.part-certain.ensures.few),
-      possible-are columns c.args.task.view.now q (relation (nodes q) root) is c.args.task.limit first c.evaluate-2.new.work c.difference-possible.new.work c.part-certain.result c.part-all.result low up
-          c.difference-possible.result c.difference-possible.ensures.holds,
+      possible-are columns c.args.task.view.now q (relation (nodes q) root) is c.args.task.limit first c.evaluate-2.new.work c.difference-possible.new.self.work.now c.part-certain.result c.part-all.result low up
+          c.difference-possible.result m.1,
     )

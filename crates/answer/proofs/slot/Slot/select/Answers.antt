@@ -1,0 +1,21 @@
+use Rattle.std.proofs.Common.{rules, ◌≡◌, ℕ, Bool, List, ◌++◌, filter, ap, ◌∙◌}
+use Rattle.semantics.specs.declared.refusal.Refusal.{Refusal}
+use Rattle.semantics.specs.Conditions.{Condition}
+use Rattle.semantics.specs.Outcomes.{done}
+use Rattle.semantics.specs.Reading.{condition_form}
+use Rattle.semantics.specs.Truths.{truth}
+use Rattle.semantics.specs.Views.{Masked}
+use Rattle.workspace.specs.Blocks.{block_rows}
+use Rattle.workspace.proofs.Reading.{rows_none}
+use Rattle.answer.specs.declared.bound.Bound.{Bound}
+use Rattle.answer.specs.Bounds.{keeps}
+use Rattle.answer.specs.Selecting.{Selects}
+use Rattle.answer.proofs.slot.Slot.select.Goals as goal
+
+selects_is : (bound : Bound) (bytes : List ℕ) (row : List Masked) (kept : Bool) (e : Refusal) (c : Condition) → Selects bound bytes row kept → condition_form e bytes ≡ done c → kept ≡ keeps bound (truth c row)
+selects_is bound bytes row kept e c s is = s.is e c is
+
+pub returns-clause-holds : goal.returns-clause-holds
+returns-clause-holds c e k is =
+    c.keep.ensures.holds (λ x. keeps c.args.bound (truth k x)) (λ cells row b u post. search (rules, selects_is))
+    ∙ ap (λ rows. rows ++ filter (λ x. keeps c.args.bound (truth k x)) (block_rows c.args.self.now.work.now c.args.from)) (rows_none c.args.self.now.work.now c.args.self.now.rows c.requires.none)

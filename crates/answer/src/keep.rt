@@ -1,0 +1,42 @@
+ghost use Rattle.std.specs.Prelude.{◌≡◌, ◌+◌, ◌≤◌, ◌++◌, List, Bool, length, filter};
+ghost use Rattle.std.specs.Borrow.{Bor};
+ghost use Rattle.semantics.specs.Views as semantics;
+ghost use Rattle.view.specs.declared.masked.Masked as cell;
+ghost use Rattle.workspace.specs.Blocks.{block_rows};
+ghost use Rattle.answer.specs.Places.{Placed};
+ghost use Rattle.answer.specs.Slots.{Same, Beside, Tells, slot_rows};
+
+use crate::slot::Slot;
+use view::Masked;
+use workspace::Block;
+
+impl Slot<'_> {
+    /// Whether a row passes a test that is handed the cells of the workspace.
+    fn passes<F: Fn(&[Masked], &[Masked]) -> bool>(&self, test: &F, row: &[Masked]) -> bool
+        requires { (cells : Bor (List cell.Masked)) → F.pre test.now cells row }
+        ensures { (cells : Bor (List cell.Masked)) × (cells.now ≡ self.now.work.now) × F.post test.now cells row.entry result }
+    {
+        test(self.work, row)
+    }
+
+    /// Puts the rows of a block that pass a test behind the others. The test is handed the cells of the
+    /// workspace and the row.
+    pub(crate) fn keep<F: Fn(&[Masked], &[Masked]) -> bool>(&mut self, from: Block, test: F)
+        requires callable { (cells row : Bor (List cell.Masked)) → length row.now ≤ 8 → F.pre test cells row }
+        requires beside { Beside self.old from }
+        requires few { self.old.rows.count + from.count ≤ self.old.limit }
+        requires wide { from.width ≡ self.old.rows.width }
+        ensures same { Same self.old self.new }
+        ensures placed { Placed self.old.limit self.old.rows.first self.old.rows.width self.old.work.now self.new.work.now self.new.rows }
+        ensures holds { (passes : List semantics.Masked → Bool) → Tells (F.post test) self.old passes → slot_rows self.new ≡ slot_rows self.old ++ filter passes (block_rows self.old.work.now from) }
+    {
+        // the loop writes the cells that it reads
+        for number in 0..from.count {
+            let row = self.copy(from, number);
+            let cells = row.cells();
+            if self.passes(&test, cells) {
+                self.push(cells);
+            }
+        }
+    }
+}
