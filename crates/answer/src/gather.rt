@@ -30,6 +30,7 @@ impl Slot<'_> {
         ensures same { Same self.old self.new }
         ensures fills { (given rows : List (List semantics.Masked)) → slot_rows self.old ≡ without_repeats given → length rows ≡ count → Lists (F.post row) self.old rows → Fills (without_repeats (given ++ rows)) self.old self.new result }
     {
+        // the loop writes the cells that it reads
         for number in 0..count {
             let next = self.given(&row, number);
             self.insert(next.cells())?;

@@ -23,6 +23,7 @@ pub(crate) fn overfull(
     ensures few { IfSome result (λ n. n < 15) }
     ensures lowest { (columns : List (List Column)) (q : Tree) → Over columns task.entry.view.now task.entry.query.now task.entry.plan.now q → Held columns task.entry.view.now q work.old memo.old → (result ≡ overflow task.entry.limit (view_tables task.entry.view.now) q) × HeldUnless columns task.entry.view.now q work.new memo.new result }
 {
+    // no `find`: of what a closure writes nothing would be known behind it
     for number in 0..task.plan.count() {
         let Some(_) = task.evaluate(Bound::High, work, memo, number) else {
             return Some(number);
