@@ -68,6 +68,7 @@ impl Kinds {
     }
 
     /// The kinds of the listed columns, where there are such columns.
+    // Beside the like of `answer` on cells: there a column that is missing is the number 0, and here it ends all.
     pub(crate) fn picked(&self, columns: &[u8]) -> Option<Kinds>
         requires { length columns.now ≤ 8 }
         ensures { PickedIs (kinds_in self.now) columns.now result }

@@ -73,6 +73,7 @@ impl Plan {
     }
 
     /// A selection from the last relation.
+    // A premise and no type: the form was asked when the record was read, and bytes carry no proof of it.
     fn select(&self, body: &[u8]) -> Result<Step, Refusal>
         ensures { (columns : List (List Column)) (c : Condition) → condition_form (WrongForm (record_count self.now)) body.now ≡ done c → Grows columns self.now (select_record c) result }
     {
@@ -93,6 +94,7 @@ impl Plan {
     }
 
     /// A projection of the last relation.
+    // A clause and no type for the 8: a wrapped slice would be unwrapped in each function that has it.
     fn project(&self, listed: &[u8]) -> Result<Step, Refusal>
         requires { length listed.now ≤ 8 }
         ensures { (columns : List (List Column)) → Grows columns self.now (project_record listed.now) result }

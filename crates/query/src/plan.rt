@@ -3,6 +3,7 @@ use bounded::Bounded;
 
 /// Where a record stands: the byte that it begins at, the number of its left or only part, and the
 /// number of the first record of its relation. A right part is the record just before it.
+// Beside `Step`, which also has the kinds. Numbers and no boxes: there is no heap below the programs.
 #[derive(Clone, Copy, PartialEq, Eq, Debug)]
 pub struct Position {
     pub at: usize,

@@ -88,12 +88,10 @@ mod tests {
     use cells::Cell;
     use std::test::Fail;
 
-    // The number and the place that a query is refused with, 0 and 0 where it passes.
-    fn refused(query: &[u8], book: &Book) -> (u8, u8) {
-        match check(query, book) {
-            Ok(_) => (0, 0),
-            Err(refusal) => (refusal.number(), refusal.place()),
-        }
+    /// The number and the place that a query is refused with, if it is.
+    fn refused(query: &[u8], book: &Book) -> Option<(u8, u8)> {
+        let refusal = check(query, book).err()?;
+        Some((refusal.number(), refusal.place()))
     }
 
     #[test]
@@ -131,21 +129,24 @@ mod tests {
         draft.declare(0, 1, 0)?;
         let mut cells = [Cell::Number(0); 96];
         let book = draft.open(&mut cells);
-        assert_eq!(rt; refused(&[], &book), (11, 0));
-        assert_eq!(rt; refused(&[1, 0, 1, 0], &book), (13, 0));
-        assert_eq!(rt; refused(&[0, 0, 1, 1], &book), (14, 0));
-        assert_eq!(rt; refused(&[0, 0, 1, 0], &book), (15, 0));
-        assert_eq!(rt; refused(&[0, 0, 4, 0], &book), (16, 0));
-        assert_eq!(rt; refused(&[1, 0, 1, 0, 1], &book), (17, 0));
+        assert_eq!(rt; refused(&[], &book), Some((11, 0)));
+        assert_eq!(rt; refused(&[1, 0, 1, 0], &book), Some((13, 0)));
+        assert_eq!(rt; refused(&[0, 0, 1, 1], &book), Some((14, 0)));
+        assert_eq!(rt; refused(&[0, 0, 1, 0], &book), Some((15, 0)));
+        assert_eq!(rt; refused(&[0, 0, 4, 0], &book), Some((16, 0)));
+        assert_eq!(rt; refused(&[1, 0, 1, 0, 1], &book), Some((17, 0)));
         assert_eq!(rt;
             refused(&[1, 0, 1, 0, 0, 7, 0, 2, 0, 3, 0, 16, 0, 1, 0, 2], &book),
-            (17, 1)
+            Some((17, 1))
         );
         assert_eq!(rt;
             refused(&[1, 0, 1, 0, 0, 7, 0, 2, 0, 3, 0, 16, 0, 5, 1, 1], &book),
-            (18, 1)
+            Some((18, 1))
         );
-        assert_eq!(rt; refused(&[1, 0, 1, 0, 0, 1, 0, 1, 0, 0], &book), (20, 2));
+        assert_eq!(rt;
+            refused(&[1, 0, 1, 0, 0, 1, 0, 1, 0, 0], &book),
+            Some((20, 2))
+        );
         Ok(())
     }
 }

@@ -14,6 +14,7 @@ use semantics::{Kind, Operator};
 
 /// What a condition record says: a comparison of a column with another, with a number or with the
 /// digits of a prefix, which stay a part of the query, or how conditions are joined.
+// One case a kind of record: a struct of operator and left column would be taken apart in each match.
 #[derive(Clone, Copy)]
 pub enum Term<'q> {
     ByColumn(Operator, u8, u8),
@@ -25,6 +26,7 @@ pub enum Term<'q> {
 }
 
 /// A comparison with a column.
+// Three readers, whose slice patterns name the bytes of each body.
 fn by_column(body: &[u8]) -> Option<Term<'_>>
     ensures { (e : Refusal) → TermIs e result (comparison_form e (column_side e) body.now) }
 {
@@ -153,6 +155,7 @@ impl Term<'_> {
         requires { depth < 1000 }
         ensures { (e : Refusal) (stack : List Condition) → length stack ≡ depth → DepthIs e result (combined e (term_of self.entry) stack) }
     {
+        // By `if`: two are taken and one is put back, which `checked_sub` says no plainer.
         match self {
             Term::And | Term::Or => { if depth < 2 { None } else { Some(depth - 1) } }
             Term::Not => { if depth < 1 { None } else { Some(depth) } }
