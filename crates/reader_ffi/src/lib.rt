@@ -15,6 +15,8 @@ fn read(query: &[u8]) -> Result<Plan, Refusal> {
     check(query, &book)
 }
 
+// The three functions answer with bare numbers, as the C interface has no Result and no Option.
+
 /// The number that a query is refused with, 0 where it passes.
 #[unsafe(no_mangle)]
 pub extern "C" fn reader_number(query: &[u8]) -> u8 {
@@ -29,7 +31,7 @@ pub extern "C" fn reader_number(query: &[u8]) -> u8 {
 pub extern "C" fn reader_place(query: &[u8]) -> usize {
     match read(query) {
         Ok(plan) => plan.count(),
-        Err(refusal) => refusal.place() as usize,
+        Err(refusal) => usize::from(refusal.place()),
     }
 }
 
@@ -42,9 +44,8 @@ pub extern "C" fn reader_kind(query: &[u8], column: usize) -> u8 {
     let Some(kinds) = plan.kinds_of(plan.count().saturating_sub(1)) else {
         return 0;
     };
-    let listed = kinds.listed();
-    if column >= listed.len() {
-        return 0;
+    match kinds.listed().get(column) {
+        Some(kind) => u8::from(*kind),
+        None => 0,
     }
-    u8::from(listed[column])
 }
