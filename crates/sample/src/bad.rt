@@ -19,6 +19,7 @@ fn full() -> Result<Draft, Refusal> {
 pub(crate) fn declarations(rt: &HostRuntime) -> anyhow::Result<()> {
     let mut draft = full().context("the columns were refused")?;
     println!(rt; "Bad calls are refused, with the first fault:")?;
+    // By bare numbers, as 3 is the number of no kind.
     show::step(rt, "declare table 4: a number", draft.declare(4, 1, 0))?;
     show::step(
         rt,

@@ -8,25 +8,18 @@ mod views;
 
 use book::{Book, Draft};
 use cells::Cell;
-use tariffs::store;
+use tariffs::{declare, number, prefix, store};
 
 /// The columns: a prefix in domain 1, the carrier's number and the price.
-fn declare(rt: &HostRuntime, draft: &mut Draft) -> anyhow::Result<()> {
-    show::step(
-        rt,
-        "declare table 0: a prefix, in domain 1",
-        draft.declare(0, 2, 1),
-    )?;
-    show::step(
-        rt,
-        "declare table 0: a number, the carrier",
-        draft.declare(0, 1, 0),
-    )?;
-    show::step(
-        rt,
-        "declare table 0: a number, the price",
-        draft.declare(0, 1, 0),
-    )
+fn columns(rt: &HostRuntime, draft: &mut Draft) -> anyhow::Result<()> {
+    for (call, column) in [
+        ("declare table 0: a prefix, in domain 1", prefix(1)),
+        ("declare table 0: a number, the carrier", number(0)),
+        ("declare table 0: a number, the price", number(0)),
+    ] {
+        show::step(rt, call, declare(draft, 0, &[column]))?;
+    }
+    Ok(())
 }
 
 /// Three tariffs fit in 96 cells of memory, and a fourth does not.
@@ -71,7 +64,7 @@ fn run(rt: &HostRuntime) -> anyhow::Result<()> {
     )?;
     let mut memory = [Cell::Number(0); 96];
     let mut draft = Draft::new();
-    declare(rt, &mut draft)?;
+    columns(rt, &mut draft)?;
     let mut book = draft.open(&mut memory);
     load(rt, &mut book)?;
     show::table(rt, "The book", &book)?;
