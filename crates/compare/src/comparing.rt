@@ -38,7 +38,7 @@ pub fn compare(operator: Operator, left: &Masked, right: &Masked) -> Truth
 {
     match (left, right) {
         (Masked::Value(a), Masked::Value(b)) => {
-            Truth::from(plainly(operator, Plain::of(a), Plain::of(b)))
+            Truth::from(plainly(operator, Plain::from(a), Plain::from(b)))
         }
         _ if left == right => itself(operator),
         (Masked::Pseudonym { domain, .. }, Masked::Pseudonym { domain: d, .. }) if domain == d => {
@@ -55,7 +55,7 @@ pub(crate) fn compare_with_digits(operator: Operator, left: &Masked, digits: &[u
     match left {
         Masked::Value(cell) => Truth::from(plainly(
             operator,
-            Plain::of(cell),
+            Plain::from(cell),
             Plain::Digits(digits),
         )),
         _ => Truth::Unknown,

@@ -13,11 +13,11 @@ pub(crate) enum Plain<'a> {
     Digits(&'a [u8]),
 }
 
-impl<'a> Plain<'a> {
-    /// The value of a cell.
-    pub(crate) fn of(cell: &'a Cell) -> Plain<'a>
-        ensures { plain_of result ≡ cell_value cell.now }
-    {
+/// The value of a cell.
+impl<'a> From<&'a Cell> for Plain<'a> {
+    ghost from_gives = { λ cell plain. plain_of plain ≡ cell_value cell.now };
+
+    fn from(cell: &'a Cell) -> Plain<'a> {
         match cell {
             Cell::Number(number) => Plain::Number(*number),
             Cell::Prefix(prefix) => Plain::Digits(prefix.digits()),
@@ -26,6 +26,7 @@ impl<'a> Plain<'a> {
 }
 
 /// Whether the first value is a number below the second.
+// No PartialOrd: prefixes have no order, and the definition has this word.
 fn below(left: Plain<'_>, right: Plain<'_>) -> bool
     ensures { result ≡ below (plain_of left.entry) (plain_of right.entry) }
 {
@@ -58,6 +59,7 @@ fn shorter(left: Plain<'_>, right: Plain<'_>) -> bool
 }
 
 /// The operators on two values.
+// A match: the operators are a closed enum, and each has its line.
 pub(crate) fn plainly(operator: Operator, left: Plain<'_>, right: Plain<'_>) -> bool
     ensures { result ≡ plainly operator (plain_of left.entry) (plain_of right.entry) }
 {
