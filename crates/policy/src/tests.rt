@@ -19,7 +19,6 @@ fn numbered(answer: Result<(), Refusal>) -> Result<(), u8> {
     answer.map_err(|refusal| refusal.number())
 }
 
-// Makers of cells as in other crates' tests: shorter than a crate that would share them.
 fn prefix() -> Result<Cell, Refusal> {
     Ok(Cell::Prefix(Prefix::from_bytes(b"47")?))
 }
