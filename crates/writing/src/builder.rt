@@ -15,7 +15,6 @@ use std::alloc::Global;
 /// The bytes of a query in the making.
 #[derive(Drop)]
 pub struct Query {
-    heap: Global,
     bytes: Vec<u8>,
 }
 
@@ -25,7 +24,6 @@ impl Query {
         ensures { query_bytes result ≡ [] }
     {
         Query {
-            heap,
             bytes: Vec::new(heap),
         }
     }
@@ -48,7 +46,7 @@ impl Query {
     pub fn select(&mut self, conditions: &[Term<'_>]) -> Result<(), WriteError>
         ensures { Appends 2 (flat_map term_bytes (map term_of conditions.now)) (query_bytes self.old) result (query_bytes self.new) }
     {
-        let mut body = Vec::new(self.heap);
+        let mut body = Vec::new(*self.bytes.allocator());
         for term in conditions {
             condition(&mut body, *term)?;
         }
