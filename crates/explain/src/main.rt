@@ -2,10 +2,10 @@
 
 #![tactic(auto)]
 
-mod show;
 mod tree;
 mod words;
 
+use crate::tree::Tree;
 use cells::Cell;
 use query::check;
 use std::io::Read;
@@ -17,8 +17,12 @@ fn explain(rt: &HostRuntime, query: &[u8]) -> anyhow::Result<()> {
     let book = reader_columns().open(&mut memory);
     match check(query, &book) {
         Ok(plan) => {
-            show::result(rt, &plan)?;
-            tree::root(rt, query, &plan)
+            let tree = Tree {
+                rt,
+                query,
+                plan: &plan,
+            };
+            tree.show()
         }
         Err(refusal) => {
             println!(rt; "{refusal}")?;

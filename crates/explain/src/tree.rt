@@ -1,42 +1,81 @@
-//! The records of a query as a tree: each stands above its parts, the left part above the right.
+//! A query that passed: the kinds of its cells, and its records as a tree. Each record stands above its
+//! parts, the left part above the right.
 
 ghost use Rattle.std.specs.Prelude.{◌+◌, ◌≤◌};
 
-use crate::show;
+use crate::words::{InWords, condition};
 use query::{Plan, Record};
 
-/// Record `number` and, below it, its parts.
-fn tree(
-    rt: &HostRuntime,
-    query: &[u8],
-    plan: &Plan,
-    number: usize,
-    depth: usize,
-) -> anyhow::Result<()>
-    requires { number + depth ≤ 15 }
-{
-    let Some(position) = plan.position(number) else {
-        return Ok(());
-    };
-    let Some(said) = plan.said(query, number) else {
-        return Ok(());
-    };
-    show::record(rt, depth, number, said)?;
-    let left = position.left;
-    if left >= number {
-        return Ok(());
-    }
-    match said {
-        Record::Table(_) => Ok(()),
-        Record::Select(_) | Record::Project(_) => tree(rt, query, plan, left, depth + 1),
-        Record::Product | Record::Union | Record::Difference => {
-            tree(rt, query, plan, left, depth + 1)?;
-            tree(rt, query, plan, number - 1, depth + 1)
-        }
-    }
+/// A query, its plan, and where they are shown.
+#[derive(Clone, Copy)]
+pub(crate) struct Tree<'a> {
+    pub(crate) rt: &'a HostRuntime,
+    pub(crate) query: &'a [u8],
+    pub(crate) plan: &'a Plan,
 }
 
-/// The whole query, from its last record.
-pub(crate) fn root(rt: &HostRuntime, query: &[u8], plan: &Plan) -> anyhow::Result<()> {
-    tree(rt, query, plan, plan.count().saturating_sub(1), 0)
+impl Tree<'_> {
+    /// The count of the records, and the kinds of the cells.
+    fn head(&self) -> anyhow::Result<()> {
+        let rt = self.rt;
+        let count = self.plan.count();
+        let Some(kinds) = self.plan.kinds_of(count.saturating_sub(1)) else {
+            return Ok(());
+        };
+        print!(rt; "A query of {count} records. The cells of its rows:")?;
+        for kind in kinds.listed() {
+            let name = InWords(*kind);
+            print!(rt; " {name}")?;
+        }
+        println!(rt; "")?;
+        Ok(())
+    }
+
+    /// A record, further to the right the deeper it is.
+    fn line(&self, number: usize, said: Record<'_>, depth: usize) -> anyhow::Result<()> {
+        let rt = self.rt;
+        for _ in 0..depth {
+            print!(rt; "    ")?;
+        }
+        let name = InWords(said);
+        print!(rt; "{number}: {name}")?;
+        if let Record::Select(body) = said {
+            let condition = condition(rt.alloc(), body)?;
+            print!(rt; " {condition}")?;
+        }
+        println!(rt; "")?;
+        Ok(())
+    }
+
+    /// Record `number` and, below it, its parts.
+    // By numbers of records and no boxes, as a plan has them: there is no heap below the programs.
+    fn below(&self, number: usize, depth: usize) -> anyhow::Result<()>
+        requires { number + depth ≤ 15 }
+    {
+        let Some(position) = self.plan.position(number) else {
+            return Ok(());
+        };
+        let Some(said) = self.plan.said(self.query, number) else {
+            return Ok(());
+        };
+        self.line(number, said, depth)?;
+        let left = position.left;
+        if left >= number {
+            return Ok(());
+        }
+        match said {
+            Record::Table(_) => Ok(()),
+            Record::Select(_) | Record::Project(_) => self.below(left, depth + 1),
+            Record::Product | Record::Union | Record::Difference => {
+                self.below(left, depth + 1)?;
+                self.below(number - 1, depth + 1)
+            }
+        }
+    }
+
+    /// The whole query, from its last record.
+    pub(crate) fn show(&self) -> anyhow::Result<()> {
+        self.head()?;
+        self.below(self.plan.count().saturating_sub(1), 0)
+    }
 }

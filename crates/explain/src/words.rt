@@ -3,18 +3,9 @@
 use query::{Record, Term, Terms};
 use semantics::{Kind, Operator};
 use std::alloc::{AllocError, Global};
-use std::fmt;
+use std::{fmt, str};
 
-/// A condition in words.
-#[derive(Drop)]
-enum Words {
-    /// A comparison or a negation.
-    Whole(String),
-    /// Two conditions joined by "and" or "or", which need brackets as a part of another.
-    Joined(String),
-}
-
-/// A kind, or an operator between its two sides, in words.
+/// A kind, an operator between its two sides, a condition's record or a query's record, in words.
 #[derive(Clone, Copy)]
 pub(crate) struct InWords<T>(pub(crate) T);
 
@@ -41,107 +32,135 @@ impl fmt::Display for InWords<Operator> {
 }
 
 /// The digits of a prefix.
-fn prefix(heap: Global, digits: &[u8]) -> Result<String, AllocError> {
-    if digits.is_empty() {
-        return String::from_str(heap, "the empty prefix");
-    }
-    digits.iter().map(|digit| char::from(*digit)).collect(heap)
-}
-
-/// A comparison.
-fn comparison(
-    heap: Global,
-    operator: Operator,
-    left: u8,
-    right: &str,
-) -> Result<Words, AllocError> {
-    let name = InWords(operator);
-    let text = format!(in heap; "column {left} {name} {right}")?;
-    Ok(Words::Whole(text))
-}
-
-/// A condition as a part of another: in brackets if it is joined itself.
-fn part(heap: Global, stack: &mut Vec<Words>) -> Result<String, AllocError> {
-    match stack.pop() {
-        None => Ok(String::new(heap)),
-        Some(Words::Whole(text)) => Ok(text),
-        Some(Words::Joined(text)) => format!(in heap; "({text})"),
+fn prefix(digits: &[u8]) -> &str {
+    match str::from_utf8(digits) {
+        Ok("") | Err(_) => "the empty prefix",
+        Ok(text) => text,
     }
 }
 
-/// The last two conditions of a stack, joined by a word.
-fn join(heap: Global, stack: &mut Vec<Words>, word: &str) -> Result<Words, AllocError> {
-    let right = part(heap, stack)?;
-    let left = part(heap, stack)?;
-    let text = format!(in heap; "{left} {word} {right}")?;
-    Ok(Words::Joined(text))
+/// A comparison, or the word that joins or negates.
+impl fmt::Display for InWords<Term<'_>> {
+    fn fmt<W: fmt::Write>(&self, f: &mut fmt::Formatter<W>) -> fmt::Result {
+        match self.0 {
+            Term::ByColumn(operator, left, right) => {
+                let name = InWords(operator);
+                write!(f, "column {left} {name} column {right}")
+            }
+            Term::ByNumber(operator, left, right) => {
+                let name = InWords(operator);
+                write!(f, "column {left} {name} {right}")
+            }
+            Term::ByPrefix(operator, left, digits) => {
+                let name = InWords(operator);
+                let right = prefix(digits);
+                write!(f, "column {left} {name} {right}")
+            }
+            Term::And => write!(f, "and"),
+            Term::Or => write!(f, "or"),
+            Term::Not => write!(f, "not"),
+        }
+    }
 }
 
-/// What a condition record makes of the conditions before it.
-fn term(heap: Global, stack: &mut Vec<Words>, said: Term<'_>) -> Result<Words, AllocError> {
-    match said {
-        Term::ByColumn(name, left, column) => {
-            let right = format!(in heap; "column {column}")?;
-            comparison(heap, name, left, right.as_str())
+/// The columns of a project, with the word for one or for more.
+#[derive(Clone, Copy)]
+struct Columns<'q>(&'q [u8]);
+
+impl fmt::Display for Columns<'_> {
+    fn fmt<W: fmt::Write>(&self, f: &mut fmt::Formatter<W>) -> fmt::Result {
+        let columns = self.0;
+        let word = if columns.len() == 1 {
+            "column"
+        } else {
+            "columns"
+        };
+        write!(f, "{word}")?;
+        let mut gap = " ";
+        for column in columns {
+            write!(f, "{gap}{column}")?;
+            gap = ", ";
         }
-        Term::ByNumber(name, left, number) => {
-            let right = format!(in heap; "{number}")?;
-            comparison(heap, name, left, right.as_str())
+        Ok(())
+    }
+}
+
+/// A record without its parts, a select without its condition.
+impl fmt::Display for InWords<Record<'_>> {
+    fn fmt<W: fmt::Write>(&self, f: &mut fmt::Formatter<W>) -> fmt::Result {
+        match self.0 {
+            Record::Table(number) => write!(f, "table {number}"),
+            Record::Select(_) => write!(f, "select"),
+            Record::Project(body) => {
+                let columns = Columns(body);
+                write!(f, "project {columns}")
+            }
+            Record::Product => write!(f, "product"),
+            Record::Union => write!(f, "union"),
+            Record::Difference => write!(f, "difference"),
         }
-        Term::ByPrefix(name, left, digits) => {
-            let right = prefix(heap, digits)?;
-            comparison(heap, name, left, right.as_str())
+    }
+}
+
+/// A condition in words.
+#[derive(Drop)]
+enum Words {
+    /// A comparison or a negation.
+    Whole(String),
+    /// Two conditions joined by "and" or "or", which need brackets as a part of another.
+    Joined(String),
+}
+
+/// The conditions that are no part of another so far.
+// A stack of Strings: parts stand before what joins them, which is said between them.
+#[derive(Drop)]
+struct Stack {
+    words: Vec<Words>,
+}
+
+impl Stack {
+    /// The last condition as a part of another: in brackets if it is joined itself.
+    fn part(&mut self) -> Result<String, AllocError> {
+        let heap = *self.words.allocator();
+        match self.words.pop() {
+            None => Ok(String::new(heap)),
+            Some(Words::Whole(text)) => Ok(text),
+            Some(Words::Joined(text)) => format!(in heap; "({text})"),
         }
-        Term::And => join(heap, stack, "and"),
-        Term::Or => join(heap, stack, "or"),
-        Term::Not => {
-            let text = part(heap, stack)?;
-            let text = format!(in heap; "not {text}")?;
-            Ok(Words::Whole(text))
+    }
+
+    /// What a condition record makes of the conditions before it.
+    fn term(&mut self, said: Term<'_>) -> Result<Words, AllocError> {
+        let heap = *self.words.allocator();
+        let name = InWords(said);
+        match said {
+            Term::And | Term::Or => {
+                let right = self.part()?;
+                let left = self.part()?;
+                Ok(Words::Joined(format!(in heap; "{left} {name} {right}")?))
+            }
+            Term::Not => {
+                let part = self.part()?;
+                Ok(Words::Whole(format!(in heap; "{name} {part}")?))
+            }
+            Term::ByColumn(..) | Term::ByNumber(..) | Term::ByPrefix(..) => {
+                Ok(Words::Whole(format!(in heap; "{name}")?))
+            }
         }
     }
 }
 
 /// The condition of a select.
-fn condition(heap: Global, body: &[u8]) -> Result<String, AllocError> {
-    let mut stack = Vec::new(heap);
+pub(crate) fn condition(heap: Global, body: &[u8]) -> Result<String, AllocError> {
+    let mut stack = Stack {
+        words: Vec::new(heap),
+    };
     for said in Terms::of(body) {
-        let words = term(heap, &mut stack, said)?;
-        stack.push(words)?;
+        let words = stack.term(said)?;
+        stack.words.push(words)?;
     }
-    match stack.pop() {
+    match stack.words.pop() {
         None => Ok(String::new(heap)),
         Some(Words::Whole(text) | Words::Joined(text)) => Ok(text),
-    }
-}
-
-/// The columns of a project, with the word for one or for more.
-fn columns(heap: Global, body: &[u8]) -> Result<String, AllocError> {
-    let word = if body.len() == 1 { "column" } else { "columns" };
-    let mut text = String::from_str(heap, word)?;
-    let mut gap = " ";
-    for column in body {
-        let number = format!(in heap; "{gap}{column}")?;
-        text.push_str(number.as_str())?;
-        gap = ", ";
-    }
-    Ok(text)
-}
-
-/// A record without its parts.
-pub(crate) fn record(heap: Global, said: Record<'_>) -> Result<String, AllocError> {
-    match said {
-        Record::Table(number) => format!(in heap; "table {number}"),
-        Record::Select(body) => {
-            let condition = condition(heap, body)?;
-            format!(in heap; "select {condition}")
-        }
-        Record::Project(body) => {
-            let columns = columns(heap, body)?;
-            format!(in heap; "project {columns}")
-        }
-        Record::Product => String::from_str(heap, "product"),
-        Record::Union => String::from_str(heap, "union"),
-        Record::Difference => String::from_str(heap, "difference"),
     }
 }
