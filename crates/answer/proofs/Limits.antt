@@ -1,8 +1,10 @@
 -- The lowest record that has too many rows.
-use Rattle.std.proofs.Common.{◌≡◌, ℕ, ◌+◌, ◌<◌, ◌≤◌, Bool, true, false, cond, ltb, List, length, drop, Some, None, Option, sym, refl, ap, ◌∙◌, subst, ⊎_elim, arith}
+use Rattle.std.proofs.Common.{◌≡◌, ℕ, ◌+◌, ◌<◌, ◌≤◌, Bool, true, false, cond, ltb, List, length, drop, Some, None, Option, Err, sym, refl, ap, ◌∙◌, subst, ⊎_elim, arith}
+use Rattle.std.specs.Option.{ok_or}
 use Rattle.std.proofs.lemmas.List.{at_drop_more, at_drop_all}
 use Rattle.std.proofs.lemmas.Bool.{lt-ltb, le-ltb, cases_eq}
 use Rattle.semantics.specs.declared.kind.Column.{Column}
+use Rattle.semantics.specs.declared.refusal.Refusal.{Refusal}
 use Rattle.semantics.specs.Answers.{high, first_from, overflow}
 use Rattle.semantics.specs.Queries.{Tree, table, nodes}
 use Rattle.view.specs.declared.masked.Masked.{Masked}
@@ -66,3 +68,8 @@ module _ (limit : ℕ) (v : View) (q : Tree) where
 
   pub passed-all : (i : ℕ) → length (nodes q) ≤ i → Passed i → None ≡ overflow limit (view_tables v) q
   passed-all i h p = sym (at_drop_all (first_from i many) (nodes q) i h) ∙ p.rest
+
+-- why an answer was not got
+pub refused_none : {X : Type 0} (o : Option X) (e f : Refusal) → Err e ≡ ok_or o f → (o ≡ None) × (e ≡ f)
+refused_none None e f h = (refl, cc)
+refused_none (Some x) e f h = absurd (let z : ◌≡◌ {A = ℕ} 0 1 = cc in omega arith)

@@ -1,11 +1,13 @@
 -- What is written is the reply of the definition.
-use Rattle.std.proofs.Common.{◌≡◌, ℕ, true, false, leb, List, ◌++◌, length, drop, Some, None, Ok, Err, sym, refl, ap, ◌∙◌, ap₂, arith}
+use Rattle.std.proofs.Common.{◌≡◌, ℕ, true, false, leb, List, ◌++◌, length, drop, Some, None, Ok, Err, Option, sym, refl, ap, ◌∙◌, ap₂, arith}
+use Rattle.std.specs.Option.{ok_or}
 use Rattle.std.proofs.lemmas.List.{length-append, length-drop}
 use Rattle.std.proofs.lemmas.Bool.{le-leb, lt-leb}
+use Rattle.semantics.specs.declared.refusal.Refusal.{Refusal}
 use Rattle.semantics.specs.declared.refusal.Refusal.TheVariants.{ReplyTooLong}
 use Rattle.semantics.specs.Answers.{overflow}
 use Rattle.semantics.specs.Asks.{capacity, reply_to, replied}
-use Rattle.semantics.specs.Outcomes.{refuse}
+use Rattle.semantics.specs.Outcomes.{refuse, Kept}
 use Rattle.semantics.specs.Queries.{Tree, nodes}
 use Rattle.semantics.specs.Replies.{reply_bytes}
 use Rattle.semantics.specs.Views as semantics
@@ -41,3 +43,14 @@ module _ (tables : List (List (List semantics.Masked))) (work_length limit : ℕ
         let l = ap length bytes in
         let long : leb (length (reply_to tables q)) (length old) ≡ false = lt-leb (length (reply_to tables q)) (length old) (omega (arith, w.0)) in
         (rw (fits, long) (ap (λ n. refuse (ReplyTooLong n)) (sym e)), w.1)
+
+    -- what is written, or refused
+    pub replied_or : (r : Option ℕ) (new : List ℕ) (count : ℕ) → length new ≡ length old → count ≡ length (nodes q) → Written (reply_bytes (block_rows cells rows.certain) (block_rows cells rows.possible)) old new r
+        → Replies (replied tables work_length (length old) q) old new (ok_or r (ReplyTooLong count))
+    replied_or (Some n) new count long e w = writes new n long w
+    replied_or None new count long e w = too_long new count e w
+
+-- what is refused leaves the buffer
+pub kept_or : (written old new : List ℕ) (r : Option ℕ) (e : Refusal) → Written written old new r → Kept (ok_or r e) old new
+kept_or written old new (Some n) e w = tt
+kept_or written old new None e w = w.1

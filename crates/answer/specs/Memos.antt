@@ -1,7 +1,10 @@
 -- The answers that have been found, each in its place of the workspace.
-use Rattle.std.specs.Prelude.{◌≡◌, ℕ, ◌*◌, ◌<◌, ◌≤◌, true, List, [], length, get_or, Some, None, Option, slice_index_or}
+use Rattle.std.specs.Prelude.{◌≡◌, ℕ, ◌*◌, ◌<◌, ◌≤◌, true, List, [], length, get_or, Some, None, Option, Ok, Err, Result, slice_index_or}
 use Rattle.semantics.specs.declared.kind.Column.{Column}
-use Rattle.semantics.specs.Answers.{high}
+use Rattle.semantics.specs.declared.refusal.Refusal.{Refusal}
+use Rattle.semantics.specs.declared.refusal.Refusal.TheVariants.{TooManyRows}
+use Rattle.semantics.specs.Answers.{high, overflow}
+use Rattle.semantics.specs.Outcomes.{refuse}
 use Rattle.semantics.specs.Queries.{Tree, nodes, kinds_of, well_formed}
 use Rattle.query.specs.declared.plan.Plan.{Plan}
 use Rattle.query.specs.Plans.{Plans}
@@ -67,10 +70,10 @@ abbrev pub Found : ℕ → List (List Column) → View → Tree → Bound → �
 Found limit columns view q bound i cells old new (Some b) = Settled columns view q bound i cells old new b
 Found limit columns view q bound i cells old new None = TooLong limit view q i
 
--- Where no record has too many rows, what was found still holds.
-abbrev pub HeldUnless : List (List Column) → View → Tree → List Masked → List (Option Block) → Option ℕ → Type 0
-HeldUnless columns view q cells memo None = Held columns view q cells memo
-HeldUnless columns view q cells memo (Some n) = Unit {0}
+-- No record has a high answer of too many rows, and what was found still holds; or the lowest record that has one is refused.
+abbrev pub NoneTooLong : ℕ → List (List Column) → View → Tree → List Masked → List (Option Block) → Result (Unit {0}) Refusal → Type 0
+NoneTooLong limit columns view q cells memo (Ok done) = (overflow limit (view_tables view) q ≡ None) × Held columns view q cells memo
+NoneTooLong limit columns view q cells memo (Err e) = (n : ℕ) × (overflow limit (view_tables view) q ≡ Some n) × (refuse {X = List ℕ} e ≡ refuse (TooManyRows n))
 
 -- The block, if there is one, begins at this row and has at most `limit` rows.
 abbrev pub InSlot : ℕ → ℕ → Option Block → Type 0

@@ -23,15 +23,11 @@ pub(crate) fn part(memo: &[Option<Block>; 30], limit: usize, slot: usize) -> Blo
     ensures begins { result.first ≡ slot * limit }
     ensures few { result.count ≤ limit }
 {
-    let found = memo[slot];
-    if let Some(block) = found {
-        return block;
-    }
-    Block {
+    memo[slot].unwrap_or(Block {
         first: slot * limit,
         count: 0,
         width: 0,
-    }
+    })
 }
 
 impl Task<'_, '_, '_> {

@@ -9,7 +9,7 @@ ghost use Rattle.answer.specs.Memos.{Over};
 
 use crate::bound::Bound;
 use crate::evaluate::part;
-use crate::overfull::overfull;
+use crate::overfull::{overfull, too_many_rows};
 use crate::slot::Slot;
 use crate::task::Task;
 use semantics::Refusal;
@@ -37,20 +37,13 @@ pub(crate) fn found(task: Task, work: &mut [Masked]) -> Result<Rows, Refusal>
     ensures { (columns : List (List Column)) (q : Tree) → Over columns task.entry.view.now task.entry.query.now task.entry.plan.now q → RowsFound task.entry.limit (view_tables task.entry.view.now) q work.new result }
 {
     let mut memo: [Option<Block>; 30] = [None; 30];
-    if let Some(number) = overfull(task, work, &mut memo) {
-        return Err(Refusal::TooManyRows(number as u8));
-    }
+    overfull(task, work, &mut memo)?;
     let count = task.plan.count();
-    if count == 0 {
-        return Err(Refusal::NotOneRelation(0));
-    }
-    let root = count - 1;
-    let Some(_) = task.evaluate(Bound::Low, work, &mut memo, root) else {
-        return Err(Refusal::TooManyRows(root as u8));
-    };
-    let Some(_) = task.evaluate(Bound::High, work, &mut memo, root) else {
-        return Err(Refusal::TooManyRows(root as u8));
-    };
+    let root = count.checked_sub(1).ok_or(Refusal::NotOneRelation(0))?;
+    let low = task.evaluate(Bound::Low, work, &mut memo, root);
+    low.ok_or(too_many_rows(root))?;
+    let high = task.evaluate(Bound::High, work, &mut memo, root);
+    high.ok_or(too_many_rows(root))?;
     let certain = part(&memo, task.limit, Bound::Low.slot(root));
     let all = part(&memo, task.limit, Bound::High.slot(root));
     let first = spare(root) * task.limit;

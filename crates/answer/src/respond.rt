@@ -36,10 +36,8 @@ fn respond(
         limit,
     };
     let rows = found(task, work)?;
-    let Some(size) = write_reply(work, rows.certain, rows.possible, reply) else {
-        return Err(Refusal::ReplyTooLong(plan.count() as u8));
-    };
-    Ok(size)
+    let size = write_reply(work, rows.certain, rows.possible, reply);
+    size.ok_or(Refusal::ReplyTooLong(plan.count() as u8))
 }
 
 /// Answers a query over a view: writes the reply with its certain and possible rows, and says how

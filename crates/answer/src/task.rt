@@ -24,7 +24,7 @@ fn with_parts<'q>(said: Record<'q>, left: usize, right: usize) -> Step<'q>
     ensures { (qs : List Tree) (i : ℕ) (q : Tree) → right ≡ i - 1 → Says i said.entry (record_of q) → Parted qs i left q → StepOf qs i result q × Lower i result }
 {
     match said {
-        Record::Table(table) => Step::Table(table as usize),
+        Record::Table(table) => Step::Table(usize::from(table)),
         Record::Select(condition) => Step::Select(left, condition),
         Record::Project(columns) => Step::Project(left, columns),
         Record::Product => Step::Product(left, right),
@@ -59,9 +59,6 @@ impl<'q> Task<'_, '_, 'q> {
         let position = self.plan.position(number)?;
         let said = self.plan.said(self.query, number)?;
         let step = with_parts(said, position.left, number.saturating_sub(1));
-        if !step.is_lower(number) {
-            return None;
-        }
-        Some(step)
+        step.is_lower(number).then_some(step)
     }
 }

@@ -1,27 +1,22 @@
-use Rattle.std.proofs.Common.{◌≡◌, Some, None, sym, ◌∙◌, arith}
+use Rattle.std.proofs.Common.{◌≡◌, ℕ, ◌*◌, ◌≤◌, List, Some, None, Option, get_or, sym, refl, ◌∙◌, arith}
 use Rattle.std.proofs.lemmas.List.{get_or_default}
+use Rattle.std.specs.Option.{unwrap_or}
+use Rattle.workspace.specs.declared.block.Block.{Block}
+use Rattle.answer.specs.Memos.{Sound}
 use Rattle.answer.proofs.Slots.{slot-within}
 use Rattle.answer.proofs.evaluate.part.Goals as goal
 
-pub returns-in-Some : goal.returns-in-Some
-returns-in-Some c =
-    let d = get_or_default c.args.memo.now c.args.slot None c.index-memo-slot.result (omega (arith, c.requires.low.0, c.requires.sound.thirty)) in
-    let e = d ∙ c.in-Some.is in
-    record {
-      found = λ b h. let g : Some c.in-Some.block ≡ Some b = sym e ∙ h in cc;
-      begins = c.requires.sound.begins c.args.slot c.in-Some.block e;
-      few = c.requires.sound.few c.args.slot c.in-Some.block e;
-    }
+-- what stands in a slot, or else its first row
+module _ (limit k : ℕ) (memo : List (Option Block)) (sound : Sound limit memo) (other : Block) (first : other.first ≡ k * limit) (none : other.count ≤ limit) where
+  stands : (o : Option Block) → get_or memo k None ≡ o → ((b : Block) → get_or memo k None ≡ Some b → unwrap_or o other ≡ b) × ((unwrap_or o other).first ≡ k * limit) × ((unwrap_or o other).count ≤ limit)
+  stands None e = (λ b h. let f : None ≡ Some b = sym e ∙ h in absurd (let z : ◌≡◌ {A = ℕ} 0 1 = cc in omega arith), first, none)
+  stands (Some x) e = (λ b h. let f : Some x ≡ Some b = sym e ∙ h in cc, sound.begins k x e, sound.few k x e)
 
-pub invariant_of-result : goal.invariant_of-result
-invariant_of-result c = record { narrow = omega arith; low = omega (arith, slot-within c.args.limit c.args.slot c.requires.low.1 c.requires.low.0) }
+pub invariant_of-unwrap_or : goal.invariant_of-unwrap_or
+invariant_of-unwrap_or c = record { narrow = omega arith; low = omega (arith, slot-within c.args.limit c.args.slot c.requires.low.1 c.requires.low.0) }
 
 pub returns : goal.returns
 returns c =
-    let d = get_or_default c.args.memo.now c.args.slot None c.index-memo-slot.result (omega (arith, c.requires.low.0, c.requires.sound.thirty)) in
-    let e = d ∙ c.in_default.is in
-    record {
-      found = λ b h. absurd (c.in_default.not-Some b (sym d ∙ h));
-      begins = omega arith;
-      few = omega arith;
-    }
+    let s = stands c.args.limit c.args.slot c.args.memo.now c.requires.sound _ refl (omega arith) _
+    (get_or_default c.args.memo.now c.args.slot None c.index-memo-slot.result (omega (arith, c.requires.low.0, c.requires.sound.thirty))) in
+    rw c.unwrap_or.ensures (record { found = s.0; begins = s.1; few = s.2 })

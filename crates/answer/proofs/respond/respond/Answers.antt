@@ -1,20 +1,15 @@
 use Rattle.std.proofs.Common.{length, ◌∙◌}
+use Rattle.semantics.specs.declared.refusal.Refusal.TheVariants.{ReplyTooLong}
 use Rattle.view.specs.Views.{view_tables}
-use Rattle.answer.proofs.Replying.{writes, too_long}
+use Rattle.answer.proofs.Replying.{replied_or, kept_or}
 use Rattle.answer.proofs.respond.respond.Goals as goal
 
-pub returns-in_default : goal.returns-in_default
-returns-in_default c = record {
-  replies = λ columns q over.
-      too_long (view_tables c.args.view.now) (length c.args.work.now) c.min-limit.result q c.found.new.work c.args.reply.now c.min-limit.ensures c.in_ok-rows.rows
-      (c.in_ok-rows.ensures columns q over) c.write_reply.new.out c.count.result (c.count.ensures.value ∙ over.planned.counted) c.in_default.ensures;
-  kept = c.in_default.ensures.1;
-}
-
 pub returns : goal.returns
-returns c = record {
-  replies = λ columns q over.
-      writes (view_tables c.args.view.now) (length c.args.work.now) c.min-limit.result q c.found.new.work c.args.reply.now c.min-limit.ensures c.in_ok-rows.rows
-      (c.in_ok-rows.ensures columns q over) c.write_reply.new.out c.in-Some.size c.write_reply.auto.out c.in-Some.ensures;
-  kept = tt;
-}
+returns c =
+    rw c.ok_or.ensures.value
+    (record {
+      replies = λ columns q over.
+          replied_or (view_tables c.args.view.now) (length c.args.work.now) c.min-limit.result q c.found.new.work c.args.reply.now c.min-limit.ensures c.in_ok-rows.rows
+          (c.in_ok-rows.ensures columns q over) c.write_reply-size.result c.write_reply-size.new.out c.count.result c.write_reply-size.auto.out (c.count.ensures.value ∙ over.planned.counted) c.write_reply-size.ensures;
+      kept = kept_or _ c.args.reply.now c.write_reply-size.new.out c.write_reply-size.result (ReplyTooLong c.count.result) c.write_reply-size.ensures;
+    })

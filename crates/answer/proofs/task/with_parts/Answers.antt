@@ -7,7 +7,7 @@ use Rattle.answer.proofs.Steps.{is-table, is-select, is-project, is-product, is_
 use Rattle.answer.proofs.task.with_parts.Goals as goal
 
 pub returns-in-Table : goal.returns-in-Table
-returns-in-Table c qs i q r s p = (is-table qs i c.args.left q c.in-Table.table (subst (λ x. Says i x (record_of q)) c.in-Table.is s), tt)
+returns-in-Table c qs i q r s p = (rw c.from.ensures (is-table qs i c.args.left q c.in-Table.table (subst (λ x. Says i x (record_of q)) c.in-Table.is s)), tt)
 
 pub returns-in-Select : goal.returns-in-Select
 returns-in-Select c qs i q r s p =
