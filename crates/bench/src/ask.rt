@@ -32,23 +32,24 @@ impl Lent {
         })
     }
 
-    /// Answers a query.
-    fn answer(&mut self, view: &View, plan: &Plan, query: &[u8]) -> anyhow::Result<()> {
+    /// Answers a query, and gives the bytes of the reply.
+    fn answer(&mut self, view: &View, plan: &Plan, query: &[u8]) -> anyhow::Result<&[u8]> {
         let work = self.work.as_mut_slice();
         let reply = self.reply.as_mut_slice();
-        answer(view, plan, query, work, reply).context("a query was refused")?;
-        Ok(())
+        let size = answer(view, plan, query, work, reply).context("a query was refused")?;
+        Ok(self.reply.as_slice().get(..size).unwrap_or(&[]))
     }
+}
 
-    /// The counts of certain and of possible rows in the last reply.
-    fn counts(&self) -> Option<(u16, u16)> {
-        let [_, _, _, _, c0, c1, p0, p1, ..] = self.reply.as_slice() else {
-            return None;
-        };
-        let certain = u16::from_le_bytes([*c0, *c1]);
-        let possible = u16::from_le_bytes([*p0, *p1]);
-        Some((certain, possible))
-    }
+/// The counts of certain and of possible rows at the start of a reply.
+// In `tour` the counts are one record of many: of this pattern only the two conversions are the same there.
+fn counts(reply: &[u8]) -> Option<(u16, u16)> {
+    let [_, _, _, _, c0, c1, p0, p1, ..] = reply else {
+        return None;
+    };
+    let certain = u16::from_le_bytes([*c0, *c1]);
+    let possible = u16::from_le_bytes([*p0, *p1]);
+    Some((certain, possible))
 }
 
 /// The times of many rounds of a step.
@@ -119,12 +120,15 @@ impl Bench<'_, '_> {
         let plan = check(bytes, self.book).context("a query was refused")?;
         let mut view = View::new();
         view.draw(self.book, policy, 7);
-        self.lent.answer(&view, &plan, bytes)?;
-        let (certain, possible) = self.lent.counts().context("a reply is too short")?;
+        let reply = self.lent.answer(&view, &plan, bytes)?;
+        let (certain, possible) = counts(reply).context("a reply is too short")?;
         print!(rt; "{name:<24} {certain:>9} {possible:>9}")?;
         if self.mode == Mode::Times {
             let drawn = draw_times(rt, self.book, policy, &mut view)?.least();
-            let times = timed(rt, || self.lent.answer(&view, &plan, bytes))?;
+            let times = timed(rt, || {
+                self.lent.answer(&view, &plan, bytes)?;
+                Ok(())
+            })?;
             let least = times.least();
             let mean = times.mean();
             print!(rt; " {least:>12} {mean:>12} {drawn:>12}")?;
