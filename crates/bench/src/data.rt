@@ -14,7 +14,8 @@
 use book::{Book, Draft};
 use cells::{Cell, Prefix};
 use semantics::Refusal;
-use tariffs::{declare, last_digit, number, prefix};
+use std::alloc::Global;
+use tariffs::{declare, number, prefix};
 
 /// The columns of all tables.
 pub(crate) fn columns() -> Result<Draft, Refusal> {
@@ -41,39 +42,30 @@ fn store(book: &mut Book<'_>, table: usize, key: u32, last: u32) -> Result<(), R
     book.store(table, &row)
 }
 
-/// A number below 1000 as a prefix, without leading zeros.
-fn decimal(number: u32) -> Result<Prefix, Refusal> {
-    let digits = [
-        last_digit(number / 100),
-        last_digit(number / 10),
-        last_digit(number),
-    ];
-    if number < 10 {
-        Prefix::from_bytes(&digits[2..])
-    } else if number < 100 {
-        Prefix::from_bytes(&digits[1..])
-    } else {
-        Prefix::from_bytes(&digits)
-    }
+/// A number as a prefix, without leading zeros.
+fn decimal(heap: Global, number: u32) -> anyhow::Result<Prefix> {
+    let digits = format!(in heap; "{number}")?;
+    Ok(Prefix::from_bytes(digits.as_bytes())?)
 }
 
 /// Stores the tariff of a row.
-fn store_tariff(book: &mut Book<'_>, r: u32) -> Result<(), Refusal> {
+fn store_tariff(heap: Global, book: &mut Book<'_>, r: u32) -> anyhow::Result<()> {
     let row = [
-        Cell::Prefix(decimal(r)?),
+        Cell::Prefix(decimal(heap, r)?),
         Cell::Number(r.wrapping_add(1000)),
         Cell::Number(r % 16),
         Cell::Number(2000 + r % 8),
     ];
-    book.store(2, &row)
+    book.store(2, &row)?;
+    Ok(())
 }
 
 /// Stores all rows.
-pub(crate) fn fill(book: &mut Book<'_>) -> Result<(), Refusal> {
+pub(crate) fn fill(heap: Global, book: &mut Book<'_>) -> anyhow::Result<()> {
     for r in 0..256 {
         store(book, 0, 1000 + r, 1000 + r)?;
         store(book, 1, 1248 + r, 1248 + r)?;
-        store_tariff(book, r)?;
+        store_tariff(heap, book, r)?;
         store(book, 3, 2000 + r, 3000 + r)?;
     }
     Ok(())
@@ -88,38 +80,28 @@ pub(crate) fn prefixes() -> Result<Draft, Refusal> {
     Ok(draft)
 }
 
-/// A number as a prefix of eight digits.
-fn eight_digits(number: u32) -> Result<Cell, Refusal> {
-    let mut digits = [b'0'; 8];
-    let mut rest = number;
-    for digit in digits.iter_mut().rev() {
-        *digit = last_digit(rest);
-        rest /= 10;
-    }
-    Ok(Cell::Prefix(Prefix::from_bytes(&digits)?))
-}
-
 /// Stores a row of prefixes from the first on; the last is `last` behind the first.
-fn store_prefixes(book: &mut Book<'_>, table: usize, first: u32, last: u32) -> Result<(), Refusal> {
-    let row = [
-        eight_digits(first)?,
-        eight_digits(first.wrapping_add(1))?,
-        eight_digits(first.wrapping_add(2))?,
-        eight_digits(first.wrapping_add(3))?,
-        eight_digits(first.wrapping_add(4))?,
-        eight_digits(first.wrapping_add(5))?,
-        eight_digits(first.wrapping_add(6))?,
-        eight_digits(first.wrapping_add(last))?,
-    ];
-    book.store(table, &row)
+fn store_prefixes(
+    heap: Global,
+    book: &mut Book<'_>,
+    table: usize,
+    first: u32,
+    last: u32,
+) -> anyhow::Result<()> {
+    let mut row = [Cell::Number(0); 8];
+    for (cell, step) in row.iter_mut().zip([0, 1, 2, 3, 4, 5, 6, last]) {
+        *cell = Cell::Prefix(decimal(heap, first.wrapping_add(step))?);
+    }
+    book.store(table, &row)?;
+    Ok(())
 }
 
 /// Stores all rows of the second book.
-pub(crate) fn fill_prefixes(book: &mut Book<'_>) -> Result<(), Refusal> {
+pub(crate) fn fill_prefixes(heap: Global, book: &mut Book<'_>) -> anyhow::Result<()> {
     for (table, last) in [(0, 6), (1, 6), (2, 7), (3, 7)] {
         for row in 0..256 {
             let place = 256 * table + row;
-            store_prefixes(book, table as usize, 10_000_000 + 8 * place, last)?;
+            store_prefixes(heap, book, table as usize, 10_000_000 + 8 * place, last)?;
         }
     }
     Ok(())

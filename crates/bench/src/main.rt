@@ -19,14 +19,20 @@ use view::View;
 /// The queries over table 2, of which even columns are shown and odd ones hidden.
 fn tariffs(bench: &mut Bench<'_, '_>) -> anyhow::Result<()> {
     let heap = bench.rt.alloc();
-    bench.ask(&HIDDEN, "select", &queries::select(heap)?)?;
-    bench.ask(&HIDDEN, "and, or, not", &queries::conditions(heap)?)?;
-    bench.ask(&HIDDEN, "project", &queries::project(heap)?)?;
-    bench.ask(&HIDDEN, "product", &queries::product(heap)?)?;
-    bench.ask(&HIDDEN, "longest prefix", &queries::longest(heap)?)
+    for (name, query) in [
+        ("select", queries::select(heap)?),
+        ("and, or, not", queries::conditions(heap)?),
+        ("project", queries::project(heap)?),
+        ("product", queries::product(heap)?),
+        ("longest prefix", queries::longest(heap)?),
+    ] {
+        bench.ask(&HIDDEN, name, &query)?;
+    }
+    Ok(())
 }
 
 /// The queries over the other tables.
+// One after another, as their policies are of two types.
 fn numbers(bench: &mut Bench<'_, '_>) -> anyhow::Result<()> {
     let heap = bench.rt.alloc();
     bench.ask(&SHOWN, "union, shown", &queries::union(heap)?)?;
@@ -44,7 +50,7 @@ fn longest(rt: &HostRuntime, lent: &mut Lent) -> anyhow::Result<()> {
     let draft = data::prefixes().context("a column was refused")?;
     let mut memory = vec![in rt.alloc(); Cell::Number(0); 8192]?;
     let mut book = draft.open(memory.as_mut_slice());
-    data::fill_prefixes(&mut book).context("a row was refused")?;
+    data::fill_prefixes(rt.alloc(), &mut book)?;
     let grouped = queries::grouped(rt.alloc(), 6)?;
     let mut bench = Bench {
         rt,
@@ -75,7 +81,7 @@ fn run(rt: &HostRuntime) -> anyhow::Result<()> {
     let draft = data::columns().context("a column was refused")?;
     let mut memory = vec![in heap; Cell::Number(0); 8192]?;
     let mut book = draft.open(memory.as_mut_slice());
-    data::fill(&mut book).context("a row was refused")?;
+    data::fill(heap, &mut book)?;
     let mut lent = Lent::new(heap)?;
     print!(rt; "query                      certain  possible")?;
     if mode == Mode::Times {

@@ -58,6 +58,8 @@ pub(crate) fn product(heap: Global) -> Result<Query, WriteError> {
 }
 
 /// Adds the tariffs whose prefix covers 25512345.
+// Here and in `tour`: a function of the two, by table, digits and columns, belongs to a library, where its
+// contract says the ten records once more.
 fn add_covering(query: &mut Query) -> Result<(), WriteError> {
     query.table(2)?;
     query.select(&[Term::ByPrefix(Operator::Covers, 0, b"25512345")])
