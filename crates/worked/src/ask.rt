@@ -30,49 +30,58 @@ fn pattern(place: usize) -> u8 {
     (place % 251) as u8
 }
 
-/// Fills the workspace and the reply buffer.
-pub(crate) fn fill(work: &mut [Masked], reply: &mut [u8]) {
-    for (place, cell) in work.iter_mut().enumerate() {
-        *cell = litter(place);
-    }
-    for (place, byte) in reply.iter_mut().enumerate() {
-        *byte = pattern(place);
-    }
+/// What is lent to an answer.
+#[derive(Drop)]
+pub(crate) struct Lent<'a> {
+    pub(crate) work: &'a mut [Masked],
+    pub(crate) reply: &'a mut [u8],
 }
 
-/// Whether every cell is the number 0.
-pub(crate) fn all_zero(work: &[Masked]) -> bool {
-    work.iter()
-        .all(|cell| *cell == Masked::Value(Cell::Number(0)))
-}
-
-/// Whether the bytes from a place on are as they were filled.
-pub(crate) fn kept_from(reply: &[u8], start: usize) -> bool {
-    reply
-        .iter()
-        .enumerate()
-        .skip(start)
-        .all(|(place, byte)| *byte == pattern(place))
-}
-
-/// Answers a query for a broker. Where the query is not well-formed, the workspace is cleared here.
-pub(crate) fn ask(
-    book: &Book<'_>,
-    policy: &Brokers,
-    broker: u16,
-    query: &[u8],
-    work: &mut [Masked],
-    reply: &mut [u8],
-) -> Result<usize, Refusal> {
-    match check(query, book) {
-        Err(refusal) => {
-            clear(work);
-            Err(refusal)
+impl Lent<'_> {
+    /// Fills the workspace and the reply buffer.
+    pub(crate) fn fill(&mut self) {
+        for (place, cell) in self.work.iter_mut().enumerate() {
+            *cell = litter(place);
         }
-        Ok(plan) => {
-            let mut view = View::new();
-            view.draw(book, policy, broker);
-            answer(&view, &plan, query, work, reply)
+        for (place, byte) in self.reply.iter_mut().enumerate() {
+            *byte = pattern(place);
+        }
+    }
+
+    /// Whether every cell is the number 0.
+    pub(crate) fn all_zero(&self) -> bool {
+        self.work
+            .iter()
+            .all(|cell| *cell == Masked::Value(Cell::Number(0)))
+    }
+
+    /// Whether the bytes from a place on are as they were filled.
+    pub(crate) fn kept_from(&self, start: usize) -> bool {
+        self.reply
+            .iter()
+            .enumerate()
+            .skip(start)
+            .all(|(place, byte)| *byte == pattern(place))
+    }
+
+    /// Answers a query for a broker. Where the query is not well-formed, the workspace is cleared here.
+    pub(crate) fn ask(
+        &mut self,
+        book: &Book<'_>,
+        policy: &Brokers,
+        broker: u16,
+        query: &[u8],
+    ) -> Result<usize, Refusal> {
+        match check(query, book) {
+            Err(refusal) => {
+                clear(self.work);
+                Err(refusal)
+            }
+            Ok(plan) => {
+                let mut view = View::new();
+                view.draw(book, policy, broker);
+                answer(&view, &plan, query, self.work, self.reply)
+            }
         }
     }
 }

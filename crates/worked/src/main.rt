@@ -12,11 +12,9 @@ mod stock;
 use anyhow::Context;
 use book::{Book, Draft};
 use cells::Cell;
-use marks::Brokers;
-use report::{Asked, Stock};
+use report::{Asked, Desk, Stock};
 use semantics::Refusal;
 use tariffs::{declare, number, prefix};
-use view::Masked;
 
 /// Tables 0 and 1 hold a prefix and two numbers, table 2 two numbers and a prefix, table 3 a
 /// customer's number, two prefixes and three numbers. Domain 1 has prefixes, domains 2 and 3 numbers.
@@ -31,14 +29,8 @@ fn columns() -> Result<Draft, Refusal> {
 }
 
 /// Puts the query of each line to the book that the line names.
-fn lines(
-    rt: &HostRuntime,
-    short: &Book<'_>,
-    tall: &Book<'_>,
-    policy: &Brokers,
-) -> anyhow::Result<()> {
-    let mut work = vec![in rt.alloc(); Masked::Value(Cell::Number(0)); 131072]?;
-    let mut reply = vec![in rt.alloc(); 0; 65536]?;
+fn lines(desk: &mut Desk<'_>, short: &Book<'_>, tall: &Book<'_>) -> anyhow::Result<()> {
+    let rt = desk.rt;
     for line in rt.lines(rt.alloc()) {
         let line = line?;
         let (name, words) = line
@@ -48,8 +40,8 @@ fn lines(
         let asked = Asked::read(rt.alloc(), words)?;
         // The proof did not close with the book picked first: the two references have two lifetimes.
         match asked.stock {
-            Stock::Short => report::put(rt, name, short, policy, &asked, &mut work, &mut reply)?,
-            Stock::Tall => report::put(rt, name, tall, policy, &asked, &mut work, &mut reply)?,
+            Stock::Short => desk.put(name, short, &asked)?,
+            Stock::Tall => desk.put(name, tall, &asked)?,
         }
     }
     Ok(())
@@ -64,7 +56,8 @@ fn run(rt: &HostRuntime) -> anyhow::Result<()> {
     let mut tall = columns()?.open(&mut more);
     stock::tall(&mut tall).context("a row was refused")?;
     let policy = marks::policy().context("a rule or a consent was refused")?;
-    lines(rt, &short, &tall, &policy)
+    let mut desk = Desk::new(rt, &policy)?;
+    lines(&mut desk, &short, &tall)
 }
 
 fn main(rt: HostRuntime) -> anyhow::Result<()> {

@@ -1,11 +1,12 @@
 //! The lines that are read and written.
 
-use crate::ask;
+use crate::ask::Lent;
 use crate::marks::Brokers;
 use anyhow::{Context, anyhow};
 use book::Book;
+use cells::Cell;
 use reply::refusal_record;
-use std::alloc::Global;
+use std::alloc::{AllocError, Global};
 use std::fmt;
 use tariffs::from_hex;
 use view::Masked;
@@ -20,6 +21,7 @@ pub(crate) enum Stock {
 }
 
 /// What a line asks: a book, a broker, how much of the memory is lent, and a query.
+// The two lengths stand here and not in slices: a line names them, as they are what is tested.
 #[derive(Drop)]
 pub(crate) struct Asked {
     pub(crate) stock: Stock,
@@ -79,35 +81,50 @@ fn show(rt: &HostRuntime, name: &str, bytes: &[u8], left: Left) -> anyhow::Resul
     Ok(())
 }
 
-/// Puts a query to a book, and writes what comes of it.
-pub(crate) fn put(
-    rt: &HostRuntime,
-    name: &str,
-    book: &Book<'_>,
-    policy: &Brokers,
-    asked: &Asked,
-    work: &mut [Masked],
-    reply: &mut [u8],
-) -> anyhow::Result<()> {
-    let work = work
-        .get_mut(..asked.cells)
-        .context("a line with too many cells")?;
-    let reply = reply
-        .get_mut(..asked.bytes)
-        .context("a line with too many bytes")?;
-    ask::fill(work, reply);
-    let query = asked.query.as_slice();
-    let outcome = ask::ask(book, policy, asked.broker, query, work, reply);
-    let clear = ask::all_zero(work);
-    match outcome {
-        Ok(size) => {
-            let kept = ask::kept_from(reply, size);
-            let bytes = reply.get(..size).unwrap_or(reply);
-            show(rt, name, bytes, Left { clear, kept })
-        }
-        Err(refusal) => {
-            let kept = ask::kept_from(reply, 0);
-            show(rt, name, &refusal_record(refusal), Left { clear, kept })
+/// What all lines are put with: the policy, and the memory that is lent in parts.
+#[derive(Drop)]
+pub(crate) struct Desk<'a> {
+    pub(crate) rt: &'a HostRuntime,
+    policy: &'a Brokers,
+    work: Vec<Masked>,
+    reply: Vec<u8>,
+}
+
+impl<'a> Desk<'a> {
+    /// Memory for the largest workspace and the longest reply that a line may ask for.
+    pub(crate) fn new(rt: &'a HostRuntime, policy: &'a Brokers) -> Result<Desk<'a>, AllocError> {
+        Ok(Desk {
+            rt,
+            policy,
+            work: vec![in rt.alloc(); Masked::Value(Cell::Number(0)); 131072]?,
+            reply: vec![in rt.alloc(); 0; 65536]?,
+        })
+    }
+
+    /// Puts a query to a book, and writes what comes of it.
+    pub(crate) fn put(&mut self, name: &str, book: &Book<'_>, asked: &Asked) -> anyhow::Result<()> {
+        let rt = self.rt;
+        let policy = self.policy;
+        let work = self.work.as_mut_slice().get_mut(..asked.cells);
+        let reply = self.reply.as_mut_slice().get_mut(..asked.bytes);
+        let mut lent = Lent {
+            work: work.context("a line with too many cells")?,
+            reply: reply.context("a line with too many bytes")?,
+        };
+        lent.fill();
+        let outcome = lent.ask(book, policy, asked.broker, asked.query.as_slice());
+        let clear = lent.all_zero();
+        match outcome {
+            Ok(size) => {
+                let kept = lent.kept_from(size);
+                let bytes = lent.reply.get(..size).unwrap_or(&[]);
+                show(rt, name, bytes, Left { clear, kept })
+            }
+            Err(refusal) => {
+                let kept = lent.kept_from(0);
+                let record = refusal_record(refusal);
+                show(rt, name, &record, Left { clear, kept })
+            }
         }
     }
 }
