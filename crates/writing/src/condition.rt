@@ -17,6 +17,7 @@ fn with_prefix(bytes: &mut Vec<u8>, operator: u8, left: u8, digits: &[u8]) -> Re
 }
 
 /// Appends a condition record.
+// A match, as each case has a body of its own form: a method for kind and parts would give bytes of every length.
 pub(crate) fn condition(bytes: &mut Vec<u8>, term: Term<'_>) -> Result<(), WriteError>
     ensures { Appends (term_number (term_of term.entry)) (term_body (term_of term.entry)) bytes.old.items result bytes.new.items }
 {
