@@ -28,6 +28,8 @@ fn projected(heap: Global, columns: &[u8]) -> Result<Query, WriteError> {
 }
 
 /// Adds the tariffs whose prefix covers 47110.
+// Here and in `bench`: a function of the two, by table, digits and columns, belongs to a library, where its
+// contract says the ten records once more.
 fn add_covering(query: &mut Query) -> Result<(), WriteError> {
     query.table(0)?;
     query.select(&[Term::ByPrefix(Operator::Covers, 0, b"47110")])

@@ -17,6 +17,8 @@ pub(crate) enum Record<'r> {
     Possible(Row<'r>),
 }
 
+// In `bench` the counts are read at the start of a reply: only the two conversions are the same there.
+
 /// What a record of this kind says, if there is such a kind and its body has its form.
 fn said(kind: u16, body: &[u8]) -> Option<Record<'_>> {
     match (kind, body) {
