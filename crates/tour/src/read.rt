@@ -34,6 +34,7 @@ fn said(kind: u16, body: &[u8]) -> Option<Record<'_>> {
 }
 
 /// The records of a reply, up to the first that is cut short or says nothing.
+// The reader of queries has a record of its own: only the four bytes of the head are the same.
 #[derive(Clone, Copy)]
 pub(crate) struct Records<'r>(pub(crate) &'r [u8]);
 
