@@ -52,4 +52,4 @@ Lists finds slot rows = (cells : Bor (List Masked)) (i : ℕ) (row : Row) → Be
 
 -- And it is as wide as the rows of the slot.
 abbrev pub Fits : (Bor (List Masked) → ℕ → Row → Type 0) → Slot → ℕ → Type 0
-Fits finds slot count = (cells : Bor (List Masked)) (i : ℕ) (row : Row) → Beyond slot cells.now → i < count → finds cells i row → row.width ≡ slot.rows.width
+Fits finds slot count = (cells : Bor (List Masked)) (i : ℕ) (row : Row) → Beyond slot cells.now → i < count → finds cells i row → length (row_of row) ≡ slot.rows.width

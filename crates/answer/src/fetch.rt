@@ -5,6 +5,7 @@ ghost use Rattle.workspace.specs.Blocks.{block_rows};
 ghost use Rattle.answer.specs.Rows.{row_of};
 
 use crate::row::Row;
+use bounded::Bounded;
 use cells::Cell;
 use view::{Masked, cell_at};
 use workspace::Block;
@@ -12,73 +13,59 @@ use workspace::Block;
 impl Row {
     /// A row without cells.
     pub(crate) fn empty() -> Row
-        ensures { (row_of result ≡ []) × (result.width ≡ 0) }
+        ensures { row_of result ≡ [] }
     {
         Row {
-            cells: [Masked::Value(Cell::Number(0)); 8],
-            width: 0,
+            cells: Bounded::new(Masked::Value(Cell::Number(0))),
         }
-    }
-
-    /// Adds cells at the end.
-    fn append(&mut self, cells: &[Masked])
-        requires { self.old.width + length cells.now ≤ 8 }
-        ensures row { row_of self.new ≡ row_of self.old ++ map masked_of cells.now }
-        ensures wide { self.new.width ≡ self.old.width + length cells.now }
-    {
-        let start = self.width;
-        let end = start + cells.len();
-        self.cells[start..end].copy_from_slice(cells);
-        self.width = end;
     }
 
     /// A copy of some cells.
     pub(crate) fn of(cells: &[Masked]) -> Row
         requires { length cells.now ≤ 8 }
-        ensures row { row_of result ≡ map masked_of cells.now }
-        ensures wide { result.width ≡ length cells.now }
+        ensures { row_of result ≡ map masked_of cells.now }
     {
         let mut row = Row::empty();
-        row.append(cells);
+        let _ = row.cells.extend(cells);
         row
     }
 
     /// A copy of a row of a block, without cells where the block has no row of this number.
     pub(crate) fn at(block: Block, work: &[Masked], number: usize) -> Row
         ensures row { row_of result ≡ slice_index_or (block_rows work.now block) number [] }
-        ensures wide { number < block.count → 8 * (block.first + block.count) ≤ length work.now → result.width ≡ block.width }
+        ensures wide { number < block.count → 8 * (block.first + block.count) ≤ length work.now → length (row_of result) ≡ block.width }
     {
         Row::of(block.row(work, number))
     }
 
     /// This row and then some cells.
     pub(crate) fn joined(&self, cells: &[Masked]) -> Row
-        requires { self.now.width + length cells.now ≤ 8 }
-        ensures row { row_of result ≡ row_of self.now ++ map masked_of cells.now }
-        ensures wide { result.width ≡ self.now.width + length cells.now }
+        requires { length (row_of self.now) + length cells.now ≤ 8 }
+        ensures { row_of result ≡ row_of self.now ++ map masked_of cells.now }
     {
         let mut row = *self;
-        row.append(cells);
+        let _ = row.cells.extend(cells);
         row
     }
 
     /// The cells of the row.
     pub(crate) fn cells(&self) -> &[Masked]
         ensures row { map masked_of result.now ≡ row_of self.now }
-        ensures wide { length result.now ≡ self.now.width }
+        ensures wide { length result.now ≡ length (row_of self.now) }
     {
-        &self.cells[0..self.width]
+        self.cells.as_slice()
     }
 
     /// The listed columns of some cells, in the listed order. A column that is not there is the number 0.
+    // Beside the like of `query` on kinds: there a column that is missing ends all, and here it is the number 0.
+    #[tactic(auto, using(std::proofs::lemmas::List::take_all))]
     pub(crate) fn picked(cells: &[Masked], columns: &[u8]) -> Row
         requires { length columns.now ≤ 8 }
-        ensures row { row_of result ≡ picked columns.now (map masked_of cells.now) }
-        ensures wide { result.width ≡ length columns.now }
+        ensures { row_of result ≡ picked columns.now (map masked_of cells.now) }
     {
         let mut row = Row::empty();
         for column in columns {
-            row.append(&[cell_at(cells, *column)]);
+            let _ = row.cells.push(cell_at(cells, *column));
         }
         row
     }

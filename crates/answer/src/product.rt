@@ -1,4 +1,4 @@
-ghost use Rattle.std.specs.Prelude.{◌≡◌, ◌+◌, ◌≤◌, ◌++◌, map};
+ghost use Rattle.std.specs.Prelude.{◌≡◌, ◌+◌, ◌≤◌, ◌++◌, map, length};
 ghost use Rattle.semantics.specs.Answers.{paired};
 ghost use Rattle.workspace.specs.Blocks.{block_rows};
 ghost use Rattle.answer.specs.Places.{Placed, Makes};
@@ -13,7 +13,7 @@ impl Slot<'_> {
     /// Puts a row, followed by each row of the right block, behind the others.
     fn pair(&mut self, row: &Row, right: Block)
         requires beside { Beside self.old right }
-        requires wide { row.now.width + right.width ≡ self.old.rows.width }
+        requires wide { length (row_of row.now) + right.width ≡ self.old.rows.width }
         requires few { self.old.rows.count + right.count ≤ self.old.limit }
         ensures same { Same self.old self.new }
         ensures placed { Placed self.old.limit self.old.rows.first self.old.rows.width self.old.work.now self.new.work.now self.new.rows }

@@ -33,7 +33,7 @@ impl Slot<'_> {
     /// A copy of a row of a block, without cells where the block has no row of this number.
     pub(crate) fn copy(&self, from: Block, number: usize) -> Row
         ensures row { row_of result ≡ slice_index_or (block_rows self.now.work.now from) number [] }
-        ensures wide { number < from.count → 8 * (from.first + from.count) ≤ length self.now.work.now → result.width ≡ from.width }
+        ensures wide { number < from.count → 8 * (from.first + from.count) ≤ length self.now.work.now → length (row_of result) ≡ from.width }
     {
         Row::at(from, self.work, number)
     }

@@ -1,12 +1,8 @@
-ghost use Rattle.std.specs.Prelude.{◌≡◌, ◌≤◌, length};
-
+use bounded::Bounded;
 use view::Masked;
 
-/// A row on its way from one place of a workspace to another: the first `width` of `cells`.
+/// A row on its way from one place of a workspace to another: at most 8 cells.
 #[derive(Clone, Copy)]
 pub(crate) struct Row {
-    pub(crate) cells: [Masked; 8],
-    pub(crate) width: usize,
-    ghost short: { width ≤ 8 },
-    ghost eight: { length cells ≡ 8 },
+    pub(crate) cells: Bounded<Masked, 8>,
 }

@@ -13,7 +13,7 @@ use workspace::Block;
 /// A copy of a row of a view.
 fn seen(view: &View, table: usize, number: usize) -> Row
     ensures row { number < length (slice_index_or (view_tables view.now) table []) → row_of result ≡ slice_index_or (slice_index_or (view_tables view.now) table []) number [] }
-    ensures wide { number < length (slice_index_or (view_tables view.now) table []) → result.width ≡ width_in view.now table }
+    ensures wide { number < length (slice_index_or (view_tables view.now) table []) → length (row_of result) ≡ width_in view.now table }
 {
     match view.row(table, number) {
         Some(row) => Row::of(row),

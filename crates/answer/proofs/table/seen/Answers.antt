@@ -1,4 +1,6 @@
-use Rattle.std.proofs.Common.{◌∙◌, arith}
+use Rattle.std.proofs.Common.{length, ap, ◌∙◌, arith}
+use Rattle.std.proofs.lemmas.List.{length-map}
+use Rattle.view.specs.Views.{masked_of}
 use Rattle.view.proofs.Memory.{width-le}
 use Rattle.answer.proofs.Gathering.{row_of_table}
 use Rattle.answer.proofs.table.seen.Goals as goal
@@ -12,4 +14,4 @@ of-requires c =
 pub returns-in-Some-clause-wide : goal.returns-in-Some-clause-wide
 returns-in-Some-clause-wide c h =
     let r = c.in-Some.ensures in
-    c.of.ensures.wide ∙ row_of_table c.args.view.now c.args.table c.args.number c.in-Some.row.now r.0 r.1
+    ap length c.of.ensures ∙ length-map c.in-Some.row.now masked_of ∙ row_of_table c.args.view.now c.args.table c.args.number c.in-Some.row.now r.0 r.1

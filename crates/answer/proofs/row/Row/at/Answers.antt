@@ -1,4 +1,6 @@
-use Rattle.std.proofs.Common.{◌∙◌}
+use Rattle.std.proofs.Common.{length, ap, ◌∙◌}
+use Rattle.std.proofs.lemmas.List.{length-map}
+use Rattle.view.specs.Views.{masked_of}
 use Rattle.workspace.proofs.Reading.{row-short, row-wide}
 use Rattle.answer.proofs.row.Row.at.Goals as goal
 
@@ -7,6 +9,6 @@ of-requires c = row-short c.args.work.now c.args.block c.args.number c.row.resul
 
 pub returns : goal.returns
 returns c = record {
-  row = c.of.ensures.row ∙ c.row.ensures;
-  wide = λ h within. c.of.ensures.wide ∙ row-wide c.args.work.now c.args.block c.args.number c.row.result.now c.row.ensures h within;
+  row = c.of.ensures ∙ c.row.ensures;
+  wide = λ h within. ap length c.of.ensures ∙ length-map c.row.result.now masked_of ∙ row-wide c.args.work.now c.args.block c.args.number c.row.result.now c.row.ensures h within;
 }

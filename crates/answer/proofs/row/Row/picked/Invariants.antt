@@ -6,4 +6,4 @@ use Rattle.answer.proofs.row.Row.picked.Given as goal
 
 abbrev pub invariant-loop-column : goal.invariant-loop-column
 invariant-loop-column l =
-    (row_of l.row ≡ map (cell_at (map masked_of l.cells)) (take l.column-index l.columns)) × (l.row.width ≡ l.column-index)
+    row_of l.row ≡ map (cell_at (map masked_of l.cells)) (take l.column-index l.columns)

@@ -2,6 +2,7 @@ use Rattle.std.proofs.Common.{rules, ◌≡◌, ◌+◌, ◌*◌, ◌≤◌, [],
 use Rattle.semantics.specs.Answers.{without_repeats}
 use Rattle.workspace.specs.Blocks.{block_rows}
 use Rattle.workspace.proofs.Reading.{length_rows, rows_none}
+use Rattle.answer.specs.Rows.{row_of}
 use Rattle.answer.specs.Slots.{Fills}
 use Rattle.answer.proofs.Filtering.{beside_kept}
 use Rattle.answer.proofs.Gathering.{row_kept, gathered_early, fills_after}
@@ -22,7 +23,7 @@ gather-requires-2-clause-wide c cells i row u h post =
     let m = c.in_ok-gather.ensures.fills [] (block_rows s.work.now c.args.left) (rows_none s.work.now s.rows c.requires.none) (length_rows s.work.now c.args.left)
     (λ cells i row u h post. rw (sym (row_kept s cells.now c.args.left u c.requires.beside.0.apart i)) (search rules)) in
     let within : 8 * (c.args.right.first + c.args.right.count) ≤ length cells.now = omega (arith, u.long, m.0.untouched.long, c.requires.beside.1.within) in
-    let e : row.width ≡ c.args.right.width = search rules in
+    let e : length (row_of row) ≡ c.args.right.width = search rules in
     e ∙ c.requires.wide.1 ∙ sym m.0.wide
 
 pub returns-in_err-gather-2-clause-makes : goal.returns-in_err-gather-2-clause-makes
