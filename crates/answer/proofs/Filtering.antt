@@ -1,15 +1,16 @@
 -- The loop that keeps the rows of a block which pass a test.
-use Rattle.std.proofs.Common.{◌≡◌, ℕ, ◌+◌, ◌<◌, ◌≤◌, Bool, true, false, List, [], ◌∷◌, ◌++◌, map, get_or, take, filter, sym, refl, ap, ◌∙◌, subst, arith}
+use Rattle.std.proofs.Common.{◌≡◌, ℕ, ◌+◌, ◌<◌, ◌≤◌, Bool, true, false, List, [], ◌∷◌, ◌++◌, get_or, take, filter, sym, refl, ap, ◌∙◌, subst, arith}
 use Rattle.std.proofs.lemmas.List.{append_assoc, append-nil, take_all}
 use Rattle.std.specs.Borrow.{Bor}
 use Rattle.semantics.specs.Views as semantics
 use Rattle.view.specs.declared.masked.Masked.{Masked}
-use Rattle.view.specs.Views.{masked_of}
 use Rattle.workspace.specs.declared.block.Block.{Block}
 use Rattle.workspace.specs.Blocks.{block_rows}
 use Rattle.workspace.proofs.Reading.{length_rows}
+use Rattle.answer.specs.declared.row.Row.{Row}
 use Rattle.answer.specs.declared.slot.Slot.{Slot}
 use Rattle.answer.specs.Places.{Untouched, Apart, Placed, Pushed}
+use Rattle.answer.specs.Rows.{row_of}
 use Rattle.answer.specs.Slots.{Same, Beside, Tells, slot_rows}
 use Rattle.answer.proofs.Places.{untouched-same, block_apart}
 use Rattle.answer.proofs.Loops.{placed-after, kept_on, kept_off}
@@ -26,7 +27,7 @@ beside_kept start slot b same p beside = record {
   within = omega (arith, p.untouched.long, beside.within);
 }
 
-module _ (finds : Bor (List Masked) → Bor (List Masked) → Bool → Type 0) (start : Slot) (from : Block) where
+module _ (finds : Bor (List Masked) → Bor Row → Bool → Type 0) (start : Slot) (from : Block) where
   -- The rows before row number `i` that pass stand behind those that the slot had at first.
   pub record Keeping (slot : Slot) (i : ℕ) : Type 0 where
     pub same : Same start slot
@@ -43,18 +44,18 @@ module _ (finds : Bor (List Masked) → Bor (List Masked) → Bool → Type 0) (
   }
 
   module _ (slot : Slot) (i : ℕ) (inv : Keeping slot i) where
-    module _ (beside : Beside start from) (h : i < from.count) (cells row : Bor (List Masked)) (here : cells.now ≡ slot.work.now) (is : map masked_of row.now ≡ get_or (block_rows slot.work.now from) i []) where
-      from_start : map masked_of row.now ≡ get_or (block_rows start.work.now from) i []
-      from_start = row_apart start.limit start.rows.first start.work.now slot.work.now from i (map masked_of row.now) inv.placed.untouched beside.apart is
+    module _ (beside : Beside start from) (h : i < from.count) (cells : Bor (List Masked)) (row : Bor Row) (here : cells.now ≡ slot.work.now) (is : row_of row.now ≡ get_or (block_rows slot.work.now from) i []) where
+      from_start : row_of row.now ≡ get_or (block_rows start.work.now from) i []
+      from_start = row_apart start.limit start.rows.first start.work.now slot.work.now from i (row_of row.now) inv.placed.untouched beside.apart is
 
       beyond : Untouched start.rows.first start.limit start.work.now cells.now
       beyond = subst (λ w. Untouched start.rows.first start.limit start.work.now w) (sym here) inv.placed.untouched
 
       -- a row that passes
-      pub keeping_on : finds cells row true → (new : Slot) → Same slot new → Pushed slot.limit slot.rows (map masked_of row.now) slot.work.now new.work.now new.rows → Keeping new (i + 1)
-      keeping_on found new same pushed =
-          let q : Pushed start.limit slot.rows (map masked_of row.now) slot.work.now new.work.now new.rows
-          = subst (λ n. Pushed n slot.rows (map masked_of row.now) slot.work.now new.work.now new.rows) inv.same.limit_kept pushed in
+      pub keeping_on : finds cells row true → (x : List semantics.Masked) → x ≡ row_of row.now → (new : Slot) → Same slot new → Pushed slot.limit slot.rows x slot.work.now new.work.now new.rows → Keeping new (i + 1)
+      keeping_on found x e new same pushed =
+          let q : Pushed start.limit slot.rows x slot.work.now new.work.now new.rows
+          = subst (λ n. Pushed n slot.rows x slot.work.now new.work.now new.rows) inv.same.limit_kept pushed in
           record {
             same = record { reference = same.reference ∙ inv.same.reference; limit_kept = same.limit_kept ∙ inv.same.limit_kept };
             placed = placed-after start.limit start.rows.first start.rows.width start.work.now slot.work.now new.work.now slot.rows inv.placed new.rows q.placed;
@@ -64,8 +65,8 @@ module _ (finds : Bor (List Masked) → Bor (List Masked) → Bool → Type 0) (
                 let l = length_rows start.work.now from in
                 let e1 = q.holds in
                 let e2 = inv.holds passes tells in
-                let e3 = kept_on passes src i (map masked_of row.now) (omega arith) from_start (sym (tells cells row true beyond found)) in
-                let e4 = append_assoc (slot_rows start) (filter passes (take i src)) (map masked_of row.now ∷ []) in
+                let e3 = kept_on passes src i (row_of row.now) (omega arith) from_start (sym (tells cells row true beyond found)) in
+                let e4 = append_assoc (slot_rows start) (filter passes (take i src)) (row_of row.now ∷ []) in
                 cc;
           }
 
@@ -78,7 +79,7 @@ module _ (finds : Bor (List Masked) → Bor (List Masked) → Bool → Type 0) (
         holds = λ passes tells.
             let l = length_rows start.work.now from in
             inv.holds passes tells
-            ∙ ap (λ rows. slot_rows start ++ rows) (sym (kept_off passes (block_rows start.work.now from) i (map masked_of row.now) (omega arith) from_start (sym (tells cells row false beyond found))));
+            ∙ ap (λ rows. slot_rows start ++ rows) (sym (kept_off passes (block_rows start.work.now from) i (row_of row.now) (omega arith) from_start (sym (tells cells row false beyond found))));
       }
 
     pub keeping_all : from.count ≤ i → (passes : List semantics.Masked → Bool) → Tells finds start passes → slot_rows slot ≡ slot_rows start ++ filter passes (block_rows start.work.now from)

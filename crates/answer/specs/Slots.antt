@@ -1,9 +1,8 @@
 -- The slot of an answer while it is made.
-use Rattle.std.specs.Prelude.{◌≡◌, ℕ, ◌+◌, ◌*◌, ◌<◌, ◌≤◌, Bool, List, [], length, get_or, map, Some, None, Option}
+use Rattle.std.specs.Prelude.{◌≡◌, ℕ, ◌+◌, ◌*◌, ◌<◌, ◌≤◌, Bool, List, [], length, get_or, Some, None, Option}
 use Rattle.std.specs.Borrow.{Bor}
 use Rattle.semantics.specs.Views as semantics
 use Rattle.view.specs.declared.masked.Masked.{Masked}
-use Rattle.view.specs.Views.{masked_of}
 use Rattle.workspace.specs.declared.block.Block.{Block}
 use Rattle.workspace.specs.Blocks.{block_rows}
 use Rattle.answer.specs.declared.row.Row.{Row}
@@ -43,8 +42,8 @@ Fills rows old new (Some done) = Makes old.limit old.rows.first old.rows.width r
 Fills rows old new None = Makes old.limit old.rows.first old.rows.width rows old.work.now new.work.now None
 
 -- As long as nothing but rows of the slot is written, the code finds of a row what this test does.
-abbrev pub Tells : (Bor (List Masked) → Bor (List Masked) → Bool → Type 0) → Slot → (List semantics.Masked → Bool) → Type 0
-Tells finds slot test = (cells row : Bor (List Masked)) (b : Bool) → Beyond slot cells.now → finds cells row b → b ≡ test (map masked_of row.now)
+abbrev pub Tells : (Bor (List Masked) → Bor Row → Bool → Type 0) → Slot → (List semantics.Masked → Bool) → Type 0
+Tells finds slot test = (cells : Bor (List Masked)) (row : Bor Row) (b : Bool) → Beyond slot cells.now → finds cells row b → b ≡ test (row_of row.now)
 
 -- As long as nothing but rows of the slot is written, the code finds at each number the row of this list.
 abbrev pub Lists : (Bor (List Masked) → ℕ → Row → Type 0) → Slot → List (List semantics.Masked) → Type 0

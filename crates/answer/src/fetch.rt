@@ -52,6 +52,7 @@ impl Row {
     pub(crate) fn cells(&self) -> &[Masked]
         ensures row { map masked_of result.now ≡ row_of self.now }
         ensures wide { length result.now ≡ length (row_of self.now) }
+        ensures few { length result.now ≤ 8 }
     {
         self.cells.as_slice()
     }

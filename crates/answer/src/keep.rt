@@ -1,18 +1,20 @@
-ghost use Rattle.std.specs.Prelude.{◌≡◌, ◌+◌, ◌≤◌, ◌++◌, List, Bool, length, filter};
+ghost use Rattle.std.specs.Prelude.{◌≡◌, ◌+◌, ◌≤◌, ◌++◌, List, Bool, filter};
 ghost use Rattle.std.specs.Borrow.{Bor};
 ghost use Rattle.semantics.specs.Views as semantics;
 ghost use Rattle.view.specs.declared.masked.Masked as cell;
 ghost use Rattle.workspace.specs.Blocks.{block_rows};
+ghost use Rattle.answer.specs.declared.row.Row as buffer;
 ghost use Rattle.answer.specs.Places.{Placed};
 ghost use Rattle.answer.specs.Slots.{Same, Beside, Tells, slot_rows};
 
+use crate::row::Row;
 use crate::slot::Slot;
 use view::Masked;
 use workspace::Block;
 
 impl Slot<'_> {
     /// Whether a row passes a test that is handed the cells of the workspace.
-    fn passes<F: Fn(&[Masked], &[Masked]) -> bool>(&self, test: &F, row: &[Masked]) -> bool
+    fn passes<F: Fn(&[Masked], &Row) -> bool>(&self, test: &F, row: &Row) -> bool
         requires { (cells : Bor (List cell.Masked)) → F.pre test.now cells row }
         ensures { (cells : Bor (List cell.Masked)) × (cells.now ≡ self.now.work.now) × F.post test.now cells row.entry result }
     {
@@ -21,8 +23,8 @@ impl Slot<'_> {
 
     /// Puts the rows of a block that pass a test behind the others. The test is handed the cells of the
     /// workspace and the row.
-    pub(crate) fn keep<F: Fn(&[Masked], &[Masked]) -> bool>(&mut self, from: Block, test: F)
-        requires callable { (cells row : Bor (List cell.Masked)) → length row.now ≤ 8 → F.pre test cells row }
+    pub(crate) fn keep<F: Fn(&[Masked], &Row) -> bool>(&mut self, from: Block, test: F)
+        requires callable { (cells : Bor (List cell.Masked)) (row : Bor buffer.Row) → F.pre test cells row }
         requires beside { Beside self.old from }
         requires few { self.old.rows.count + from.count ≤ self.old.limit }
         requires wide { from.width ≡ self.old.rows.width }
@@ -33,9 +35,8 @@ impl Slot<'_> {
         // the loop writes the cells that it reads
         for number in 0..from.count {
             let row = self.copy(from, number);
-            let cells = row.cells();
-            if self.passes(&test, cells) {
-                self.push(cells);
+            if self.passes(&test, &row) {
+                self.push(row.cells());
             }
         }
     }

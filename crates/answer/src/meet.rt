@@ -1,10 +1,12 @@
-ghost use Rattle.std.specs.Prelude.{◌≡◌, ◌≤◌, map, length};
+ghost use Rattle.std.specs.Prelude.{◌≡◌, map};
 ghost use Rattle.semantics.specs.Lists.{some};
 ghost use Rattle.view.specs.Views.{masked_of};
 ghost use Rattle.workspace.specs.Blocks.{block_rows};
 ghost use Rattle.answer.specs.Bounds.{takes_out};
+ghost use Rattle.answer.specs.Rows.{row_of};
 
 use crate::bound::Bound;
+use crate::row::Row;
 use rows::compatible;
 use view::Masked;
 use workspace::Block;
@@ -13,20 +15,18 @@ impl Bound {
     /// Whether a right row takes a left row out of a difference: in the low answer if it may be the
     /// same row, in the high answer if it is.
     #[tactic(auto, using(view::proofs::Same::equal_rows))]
-    fn takes_out(self, row: &[Masked], other: &[Masked]) -> bool
-        requires { length row.now ≤ 8 }
-        ensures { result ≡ takes_out self (map masked_of row.now) (map masked_of other.now) }
+    fn takes_out(self, row: &Row, other: &[Masked]) -> bool
+        ensures { result ≡ takes_out self (row_of row.now) (map masked_of other.now) }
     {
         match self {
-            Bound::Low => compatible(row, other),
-            Bound::High => row == other,
+            Bound::Low => compatible(row.cells(), other),
+            Bound::High => row.cells() == other,
         }
     }
 
     /// Whether some row of a block takes a row out.
-    pub(crate) fn some_takes_out(self, work: &[Masked], block: Block, row: &[Masked]) -> bool
-        requires { length row.now ≤ 8 }
-        ensures { result ≡ some (takes_out self (map masked_of row.now)) (block_rows work.now block) }
+    pub(crate) fn some_takes_out(self, work: &[Masked], block: Block, row: &Row) -> bool
+        ensures { result ≡ some (takes_out self (row_of row.now)) (block_rows work.now block) }
     {
         block.rows(work).any(|other| self.takes_out(row, other))
     }

@@ -1,28 +1,28 @@
-ghost use Rattle.std.specs.Prelude.{◌≡◌, ◌≤◌, map, filter};
+ghost use Rattle.std.specs.Prelude.{◌≡◌, ◌≤◌, filter};
 ghost use Rattle.semantics.specs.declared.refusal.Refusal.{Refusal};
 ghost use Rattle.semantics.specs.Conditions.{Condition};
 ghost use Rattle.semantics.specs.Outcomes.{done};
 ghost use Rattle.semantics.specs.Reading.{condition_form};
 ghost use Rattle.semantics.specs.Truths.{truth};
-ghost use Rattle.view.specs.Views.{masked_of};
 ghost use Rattle.workspace.specs.Blocks.{block_rows};
 ghost use Rattle.answer.specs.Bounds.{keeps};
 ghost use Rattle.answer.specs.Places.{Placed};
+ghost use Rattle.answer.specs.Rows.{row_of};
 ghost use Rattle.answer.specs.Selecting.{Selects};
 ghost use Rattle.answer.specs.Slots.{Same, Beside};
 
 use crate::bound::Bound;
+use crate::row::Row;
 use crate::slot::Slot;
 use compare::truth;
-use view::Masked;
 use workspace::Block;
 
 impl Bound {
     /// Whether a select with this condition keeps a row.
-    fn selects(self, condition: &[u8], row: &[Masked]) -> bool
-        ensures { Selects self condition.now (map masked_of row.now) result }
+    fn selects(self, condition: &[u8], row: &Row) -> bool
+        ensures { Selects self condition.now (row_of row.now) result }
     {
-        self.keeps(truth(condition, row))
+        self.keeps(truth(condition, row.cells()))
     }
 }
 

@@ -14,6 +14,7 @@ impl Block {
             return &work[0..0];
         }
         let start = 8 * (self.first + row);
+        // `min`, and no `get`: a memory that ends within the row gives the part of the row that it has
         let from = start.min(work.len());
         let to = (start + self.width).min(work.len());
         &work[from..to]

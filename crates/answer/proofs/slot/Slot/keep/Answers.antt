@@ -7,19 +7,19 @@ pub push-requires-clause-wide : goal.push-requires-clause-wide
 push-requires-clause-wide g c =
     let inv = c.loop-number.invariant in
     let w = c.copy-row.ensures.wide c.loop-number-test.true (omega (arith, inv.placed.untouched.long, c.requires.beside.within)) in
-    omega (arith, c.cells-cells.ensures.wide, w, inv.placed.wide, c.requires.wide)
+    omega (arith, c.cells.ensures.wide, w, inv.placed.wide, c.requires.wide)
 
 pub loop-number-preserved : goal.loop-number-preserved
 loop-number-preserved g c =
     elim c.if-passes.branch [
       | then-passes w ↦
           rw w.self-is
-          (keeping_on (goal.F-post g c.args.test) c.args.self.now c.args.from c.loop-number.self c.loop-number.number c.loop-number.invariant c.requires.beside c.loop-number-test.true c.passes.ensures.0 c.cells-cells.result c.passes.ensures.1
-          (c.cells-cells.ensures.row ∙ c.copy-row.ensures.row) (rw w.if-passes.true at c.passes.ensures.2) w.push.new.self w.push.ensures.same w.push.ensures.pushed)
+          (keeping_on (goal.F-post g c.args.test) c.args.self.now c.args.from c.loop-number.self c.loop-number.number c.loop-number.invariant c.requires.beside c.loop-number-test.true c.passes.ensures.0 _ c.passes.ensures.1
+          c.copy-row.ensures.row (rw w.if-passes.true at c.passes.ensures.2) _ w.cells.ensures.row w.push.new.self w.push.ensures.same w.push.ensures.pushed)
       | else-passes w ↦
           rw w.self-is
-          (keeping_off (goal.F-post g c.args.test) c.args.self.now c.args.from c.loop-number.self c.loop-number.number c.loop-number.invariant c.requires.beside c.loop-number-test.true c.passes.ensures.0 c.cells-cells.result c.passes.ensures.1
-          (c.cells-cells.ensures.row ∙ c.copy-row.ensures.row) (rw w.if-passes.false at c.passes.ensures.2))
+          (keeping_off (goal.F-post g c.args.test) c.args.self.now c.args.from c.loop-number.self c.loop-number.number c.loop-number.invariant c.requires.beside c.loop-number-test.true c.passes.ensures.0 _ c.passes.ensures.1
+          c.copy-row.ensures.row (rw w.if-passes.false at c.passes.ensures.2))
     ]
 
 pub returns-clause-holds : goal.returns-clause-holds
