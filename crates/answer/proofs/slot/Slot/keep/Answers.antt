@@ -1,4 +1,4 @@
-use Rattle.std.proofs.Common.{◌∙◌, arith}
+use Rattle.std.proofs.Common.{arith}
 use Rattle.answer.proofs.Filtering.{keeping_on, keeping_off, keeping_all}
 use Rattle.answer.proofs.slot.Slot.keep.Goals as goal
 use Rattle.answer.proofs.slot.Slot.keep.Goals.{then-passes, else-passes}
