@@ -18,6 +18,10 @@ use Rattle.answer.specs.declared.found.Rows.{Rows}
 use Rattle.answer.specs.Answering.{RowsFound, Replies}
 
 module _ (tables : List (List (List semantics.Masked))) (work_length limit : ℕ) (q : Tree) (cells : List Masked) (old : List ℕ) (is : limit ≡ capacity work_length) where
+  -- some record has too many rows
+  pub overfull : (e : Refusal) → RowsFound limit tables q cells (Err e) → replied tables work_length (length old) q ≡ refuse e
+  overfull e found = rw (ap (λ n. overflow n tables q) (sym is) ∙ found.1) (sym found.2)
+
   -- no record has too many rows
   module _ (rows : Rows) (found : RowsFound limit tables q cells (Ok rows)) where
     bytes : reply_bytes (block_rows cells rows.certain) (block_rows cells rows.possible) ≡ reply_to tables q

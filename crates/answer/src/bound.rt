@@ -37,6 +37,7 @@ impl Bound {
         requires { number < 15 }
         ensures { result ≡ slot self number }
     {
+        // the number is a usize: a type of its own would be made from and turned into one at each use
         match self {
             Bound::Low => 2 * number,
             Bound::High => 2 * number + 1,

@@ -11,6 +11,7 @@ mod found;
 mod gather;
 mod keep;
 mod meet;
+mod memo;
 mod overfull;
 mod product;
 mod project;

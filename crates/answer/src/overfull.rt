@@ -1,14 +1,13 @@
-ghost use Rattle.std.specs.Prelude.{◌≡◌, ◌*◌, ◌<◌, ◌≤◌, List, length};
+ghost use Rattle.std.specs.Prelude.{◌≡◌, ◌<◌, List};
 ghost use Rattle.semantics.specs.declared.kind.Column.{Column};
 ghost use Rattle.semantics.specs.declared.refusal.Refusal.TheVariants.{TooManyRows};
 ghost use Rattle.semantics.specs.Queries.{Tree};
-ghost use Rattle.answer.specs.Memos.{Over, Sound, Held, NoneTooLong};
+ghost use Rattle.answer.specs.Memos.{Over, Held, NoneTooLong};
 
 use crate::bound::Bound;
+use crate::memo::Memo;
 use crate::task::Task;
 use semantics::Refusal;
-use view::Masked;
-use workspace::Block;
 
 /// The refusal of the record of this number, whose answer has too many rows.
 pub(crate) fn too_many_rows(number: usize) -> Refusal
@@ -19,19 +18,13 @@ pub(crate) fn too_many_rows(number: usize) -> Refusal
 }
 
 /// Finds all high answers, or refuses the lowest record whose high answer has too many rows.
-pub(crate) fn overfull(
-    task: Task,
-    work: &mut [Masked],
-    memo: &mut [Option<Block>; 30],
-) -> Result<(), Refusal>
-    requires sound { Sound task.limit memo.old }
-    requires room { (240 * task.limit ≤ length work.old) × (task.limit ≤ 512) }
-    ensures sound { Sound task.entry.limit memo.new }
-    ensures lowest { (columns : List (List Column)) (q : Tree) → Over columns task.entry.view.now task.entry.query.now task.entry.plan.now q → Held columns task.entry.view.now q work.old memo.old → NoneTooLong task.entry.limit columns task.entry.view.now q work.new memo.new result }
+pub(crate) fn overfull(task: Task, memo: &mut Memo) -> Result<(), Refusal>
+    ensures limit { memo.new.limit ≡ memo.old.limit }
+    ensures lowest { (columns : List (List Column)) (q : Tree) → Over columns task.entry.view.now task.entry.query.now task.entry.plan.now q → Held columns task.entry.view.now q memo.old.work.now memo.old.found → NoneTooLong memo.old.limit columns task.entry.view.now q memo.new.work.now memo.new.found result }
 {
     // no `find`: of what a closure writes nothing would be known behind it
     for number in 0..task.plan.count() {
-        let high = task.evaluate(Bound::High, work, memo, number);
+        let high = task.evaluate(Bound::High, memo, number);
         high.ok_or(too_many_rows(number))?;
     }
     Ok(())

@@ -1,21 +1,34 @@
-ghost use Rattle.std.specs.Prelude.{◌≡◌, ℕ, List, length, replicate};
+ghost use Rattle.std.specs.Prelude.{◌≡◌, List, length, replicate};
 ghost use Rattle.semantics.specs.declared.kind.Column.{Column};
 ghost use Rattle.semantics.specs.Asks.{replied};
 ghost use Rattle.semantics.specs.Outcomes.{Kept};
 ghost use Rattle.semantics.specs.Queries.{Tree};
+ghost use Rattle.semantics.specs.Replies.{reply_bytes};
 ghost use Rattle.cells.specs.declared.cell.Cell.TheVariants.{Number};
 ghost use Rattle.view.specs.declared.masked.Masked.TheVariants.{Value};
 ghost use Rattle.view.specs.Views.{view_tables};
+ghost use Rattle.workspace.specs.Blocks.{block_rows};
+ghost use Rattle.reply.specs.Writing.{Written};
 ghost use Rattle.answer.specs.Answering.{Replies};
 ghost use Rattle.answer.specs.Memos.{Over};
 
-use crate::found::found;
+use crate::found::{Rows, found};
+use crate::memo::Memo;
 use crate::task::Task;
 use query::Plan;
 use reply::write_reply;
 use semantics::Refusal;
 use view::{Masked, View};
 use workspace::clear;
+
+impl Memo<'_> {
+    /// Writes the certain and the possible rows, where the reply has room for them.
+    fn write(&self, rows: Rows, reply: &mut [u8]) -> Option<usize>
+        ensures { Written (reply_bytes (block_rows self.now.work.now rows.certain) (block_rows self.now.work.now rows.possible)) reply.old reply.new result }
+    {
+        write_reply(self.work, rows.certain, rows.possible, reply)
+    }
+}
 
 /// Writes the reply, and leaves the workspace as it comes.
 fn respond(
@@ -29,20 +42,22 @@ fn respond(
     ensures kept { Kept result reply.old reply.new }
 {
     let limit = (work.len() / 240).min(512);
-    let task = Task {
-        view,
-        plan,
-        query,
+    let task = Task { view, plan, query };
+    let mut memo = Memo {
+        work,
         limit,
+        found: [None; 30],
     };
-    let rows = found(task, work)?;
-    let size = write_reply(work, rows.certain, rows.possible, reply);
+    let rows = found(task, &mut memo)?;
+    let size = memo.write(rows, reply);
     size.ok_or(Refusal::ReplyTooLong(plan.count() as u8))
 }
 
 /// Answers a query over a view: writes the reply with its certain and possible rows, and says how
 /// long it is. `plan` is the plan of `query`, and of a query over other tables nothing is promised
 /// but that it is answered or refused. The workspace is cleared in every case.
+// Public, so the view, the plan and the query stay parameters; the reply is lent, as nothing is
+// allocated here.
 pub fn answer(
     view: &View,
     plan: &Plan,

@@ -1,3 +1,4 @@
+// Not `query::Record` with a type parameter for the parts: its other users have no parts to name.
 /// What a record of a query says, with the numbers of its parts.
 #[derive(Clone, Copy)]
 pub(crate) enum Step<'q> {

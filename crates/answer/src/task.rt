@@ -10,13 +10,14 @@ use crate::step::Step;
 use query::{Plan, Record};
 use view::View;
 
-/// A query over a view, and how many rows an answer of it may have.
+// No ghost field says that the plan is the query's: that is said of every tree and all columns, of
+// which the code has no value.
+/// A query over a view.
 #[derive(Clone, Copy)]
 pub(crate) struct Task<'v, 'p, 'q> {
     pub(crate) view: &'v View,
     pub(crate) plan: &'p Plan,
     pub(crate) query: &'q [u8],
-    pub(crate) limit: usize,
 }
 
 /// What a record says, with the numbers of its left or only part and of its right part.

@@ -4,7 +4,7 @@ use Rattle.std.specs.Option.{unwrap_or}
 use Rattle.workspace.specs.declared.block.Block.{Block}
 use Rattle.answer.specs.Memos.{Sound}
 use Rattle.answer.proofs.Slots.{slot-within}
-use Rattle.answer.proofs.evaluate.part.Goals as goal
+use Rattle.answer.proofs.memo.Memo.part.Goals as goal
 
 -- what stands in a slot, or else its first row
 module _ (limit k : ℕ) (memo : List (Option Block)) (sound : Sound limit memo) (other : Block) (first : other.first ≡ k * limit) (none : other.count ≤ limit) where
@@ -13,10 +13,10 @@ module _ (limit k : ℕ) (memo : List (Option Block)) (sound : Sound limit memo)
   stands (Some x) e = (λ b h. let f : Some x ≡ Some b = sym e ∙ h in cc, sound.begins k x e, sound.few k x e)
 
 pub invariant_of-unwrap_or : goal.invariant_of-unwrap_or
-invariant_of-unwrap_or c = record { narrow = omega arith; low = omega (arith, slot-within c.args.limit c.args.slot c.requires.low.1 c.requires.low.0) }
+invariant_of-unwrap_or c = record { narrow = omega arith; low = omega (arith, slot-within c.args.self.now.limit c.args.slot c.args.self.now.few c.requires.low) }
 
 pub returns : goal.returns
 returns c =
-    let s = stands c.args.limit c.args.slot c.args.memo.now c.requires.sound _ refl (omega arith) _
-    (get_or_default c.args.memo.now c.args.slot None c.index-memo-slot.result (omega (arith, c.requires.low.0, c.requires.sound.thirty))) in
+    let s = stands c.args.self.now.limit c.args.slot c.args.self.now.found c.args.self.now.sound _ refl (omega arith) _
+    (get_or_default c.args.self.now.found c.args.slot None c.index-self-slot.result (omega (arith, c.requires.low, c.args.self.now.sound.thirty))) in
     rw c.unwrap_or.ensures (record { found = s.0; begins = s.1; few = s.2 })
