@@ -44,9 +44,9 @@ impl Step<'_> {
             Step::Table(_) => true,
             Step::Select(l, _) => l < number,
             Step::Project(l, columns) => l < number && columns.len() <= 8,
-            Step::Product(l, r) => l < number && r < number,
-            Step::Union(l, r) => l < number && r < number,
-            Step::Difference(l, r) => l < number && r < number,
+            Step::Product(l, r) | Step::Union(l, r) | Step::Difference(l, r) => {
+                l < number && r < number
+            }
         }
     }
 }
