@@ -26,6 +26,7 @@ impl Task<'_, '_, '_> {
     {
         let limit = memo.limit;
         let first = bound.slot(number) * limit;
+        // each operation takes its parts by name, so each arm looks them up itself
         match step {
             Step::Table(t) => {
                 let width = self.view.width(t);
@@ -99,6 +100,7 @@ impl Task<'_, '_, '_> {
             return Some(block);
         }
         let step = self.step(number)?;
+        // an arm for each kind: the proof did not close where one arm stands for two kinds
         match step {
             Step::Table(_) => {}
             Step::Select(l, _) => {
