@@ -13,5 +13,6 @@ mod sink;
 mod tests;
 mod writer;
 
+pub use kinds::{CellKind, RecordKind, UnknownKind};
 pub use refusal::refusal_record;
 pub use reply::write_reply;

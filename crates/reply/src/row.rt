@@ -16,13 +16,13 @@ fn put_value<S: Sink>(to: &mut S, value: &Cell)
 {
     match value {
         Cell::Number(number) => {
-            to.put(&[CellKind::Number as u8]);
+            to.put(&[u8::from(CellKind::Number)]);
             to.put(&number.to_le_bytes());
         }
         Cell::Prefix(prefix) => {
             let digits = prefix.digits();
             // `as` keeps the count: a prefix has at most 8 digits.
-            to.put(&[CellKind::Prefix as u8, digits.len() as u8]);
+            to.put(&[u8::from(CellKind::Prefix), digits.len() as u8]);
             to.put(digits);
         }
     }
@@ -37,10 +37,10 @@ fn put_cell<S: Sink>(to: &mut S, cell: &Masked)
     match cell {
         Masked::Value(value) => put_value(to, value),
         Masked::Variable { table, row, column } => {
-            to.put(&[CellKind::Variable as u8, *table, *row, *column]);
+            to.put(&[u8::from(CellKind::Variable), *table, *row, *column]);
         }
         Masked::Pseudonym { domain, index } => {
-            to.put(&[CellKind::Pseudonym as u8, *domain]);
+            to.put(&[u8::from(CellKind::Pseudonym), *domain]);
             to.put(&index.to_le_bytes());
         }
     }
