@@ -1,3 +1,4 @@
+pub mod RecordKinds
 pub mod Firsts
 pub mod Terms
 pub mod Saying

@@ -4,14 +4,14 @@ ghost use Rattle.query.specs.Firsts.{FirstIs};
 
 /// The first record of some bytes: its kind, its body, and the bytes after it.
 #[derive(Clone, Copy)]
-pub(crate) struct First<'q> {
-    pub(crate) kind: u16,
-    pub(crate) body: &'q [u8],
-    pub(crate) rest: &'q [u8],
+pub struct First<'q> {
+    pub kind: u16,
+    pub body: &'q [u8],
+    pub rest: &'q [u8],
 }
 
 /// The first record, if its head and its body are whole.
-pub(crate) fn first_record(bytes: &[u8]) -> Option<First<'_>>
+pub fn first_record(bytes: &[u8]) -> Option<First<'_>>
     ensures { FirstIs result (first_record bytes.now) }
 {
     let [l0, l1, k0, k1, behind @ ..] = bytes else {

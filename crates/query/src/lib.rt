@@ -6,6 +6,7 @@ mod columns;
 mod condition;
 mod first;
 mod grow;
+mod kind;
 mod kinds;
 mod plan;
 mod questions;
@@ -15,6 +16,8 @@ mod step;
 mod term;
 mod terms;
 
+pub use first::{First, first_record};
+pub use kind::{RecordKind, TermKind, UnknownKind};
 pub use kinds::Kinds;
 pub use plan::{Plan, Position};
 pub use questions::check;

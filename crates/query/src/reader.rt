@@ -3,6 +3,7 @@ ghost use Rattle.query.specs.Saying.{first_said, said_by, SaidAs, ReadAs};
 
 use crate::condition::is_condition;
 use crate::first::{First, first_record};
+use crate::kind::RecordKind;
 use crate::record::Record;
 use semantics::Refusal;
 
@@ -20,20 +21,19 @@ impl<'q> First<'q> {
         ensures { SaidAs place result (said_by place (first_of self.entry)) }
     {
         let body = self.body;
-        // The kinds are numbers here alone: an enum of them would be read by such a match, and matched again.
-        let said = match self.kind {
-            1 => match body {
+        let kind = RecordKind::try_from(self.kind).or(Err(Refusal::UnknownRecord(place)))?;
+        let said = match kind {
+            RecordKind::Table => match body {
                 [table] => Some(Record::Table(*table)),
                 _ => None,
             },
-            2 => is_condition(body).then_some(Record::Select(body)),
-            3 => (1..=8)
+            RecordKind::Select => is_condition(body).then_some(Record::Select(body)),
+            RecordKind::Project => (1..=8)
                 .contains(&body.len())
                 .then_some(Record::Project(body)),
-            4 => body.is_empty().then_some(Record::Product),
-            5 => body.is_empty().then_some(Record::Union),
-            6 => body.is_empty().then_some(Record::Difference),
-            _ => return Err(Refusal::UnknownRecord(place)),
+            RecordKind::Product => body.is_empty().then_some(Record::Product),
+            RecordKind::Union => body.is_empty().then_some(Record::Union),
+            RecordKind::Difference => body.is_empty().then_some(Record::Difference),
         };
         said.ok_or(Refusal::WrongForm(place))
     }

@@ -8,6 +8,7 @@ ghost use Rattle.query.specs.Kinds.{kinds_in};
 ghost use Rattle.query.specs.Terms.{passes, term_of, TermIs, first_term, FirstTermIs, DepthIs};
 
 use crate::first::{First, first_record};
+use crate::kind::TermKind;
 use crate::kinds::Kinds;
 use cells::all_digits;
 use semantics::{Kind, Operator};
@@ -77,15 +78,13 @@ impl<'q> First<'q> {
         ensures { (e : Refusal) → TermIs e result (term_form e self.entry.kind self.entry.body.now) }
     {
         let body = self.body;
-        // The kinds are numbers here alone: an enum of them would be read by such a match, and matched again.
-        match self.kind {
-            0x10 => by_column(body),
-            0x11 => by_number(body),
-            0x12 => by_prefix(body),
-            0x13 => joining(Term::And, body),
-            0x14 => joining(Term::Or, body),
-            0x15 => joining(Term::Not, body),
-            _ => None,
+        match TermKind::try_from(self.kind).ok()? {
+            TermKind::ByColumn => by_column(body),
+            TermKind::ByNumber => by_number(body),
+            TermKind::ByPrefix => by_prefix(body),
+            TermKind::And => joining(Term::And, body),
+            TermKind::Or => joining(Term::Or, body),
+            TermKind::Not => joining(Term::Not, body),
         }
     }
 }
