@@ -2,7 +2,7 @@ ghost use Rattle.std.specs.Prelude.{◌≡◌};
 ghost use Rattle.semantics.specs.declared.kind.Kind.TheVariants.{Number, Prefix};
 ghost use Rattle.semantics.specs.Outcomes.{AnswersAs};
 ghost use Rattle.book.specs.Columns.{columns_in};
-ghost use Rattle.tariffs.specs.Columns.{declared_all, tariff_tables, reader_tables};
+ghost use Rattle.tariffs.specs.Columns.{declared_all, declared_up_to, tariff_tables, reader_tables};
 
 use book::Draft;
 use semantics::{Column, Kind, Refusal};
@@ -27,9 +27,11 @@ pub fn prefix(domain: u8) -> Column
     }
 }
 
-/// Declares columns at the end of a table, one after another up to the first that is refused.
+/// Declares columns at the end of a table, one after another up to the first that is refused: those
+/// before it stay.
 pub fn declare(draft: &mut Draft, table: usize, columns: &[Column]) -> Result<(), Refusal>
-    ensures { AnswersAs (λ _. columns_in draft.new.tables) result (declared_all (columns_in draft.old.tables) table columns.now) }
+    ensures answers { AnswersAs (λ _. columns_in draft.new.tables) result (declared_all (columns_in draft.old.tables) table columns.now) }
+    ensures columns { columns_in draft.new.tables ≡ declared_up_to (columns_in draft.old.tables) table columns.now }
 {
     for column in columns {
         draft.declare(table, u8::from(column.kind), column.domain)?;

@@ -1,4 +1,4 @@
-use crate::{filters, from_hex, last_digit, store, tariff_columns};
+use crate::{declare, filters, from_hex, last_digit, number, prefix, store, tariff_columns};
 use cells::{Cell, Prefix};
 use semantics::Refusal;
 use std::test::Fail;
@@ -10,6 +10,17 @@ fn what_is_no_digit_is_passed_over(rt: HostRuntime) -> Result<(), Fail> {
     let none = from_hex(rt.alloc(), "a")?;
     assert!(rt; none.is_empty());
     Ok(())
+}
+
+#[test]
+fn columns_before_a_refused_one_stay(rt: HostRuntime) {
+    let mut draft = tariff_columns();
+    let columns = [prefix(1), number(2), number(1), number(0)];
+    assert!(rt; declare(&mut draft, 1, &columns) == Err(Refusal::WrongDomain));
+    let mut memory = [Cell::Number(0); 32];
+    let book = draft.open(&mut memory);
+    assert!(rt; book.columns(1) == &columns[..2]);
+    assert_eq!(rt; book.columns(0).len(), 3);
 }
 
 #[test]
