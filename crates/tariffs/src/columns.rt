@@ -7,24 +7,25 @@ ghost use Rattle.tariffs.specs.Columns.{declared_all, declared_up_to, tariff_tab
 use book::Draft;
 use semantics::{Column, Kind, Refusal};
 
+/// A column of this kind, in a domain.
+fn column(kind: Kind, domain: u8) -> Column
+    ensures { result ≡ record { kind = kind; domain = domain } }
+{
+    Column { kind, domain }
+}
+
 /// A column of numbers in a domain, 0 for none.
 pub fn number(domain: u8) -> Column
     ensures { result ≡ record { kind = Number; domain = domain } }
 {
-    Column {
-        kind: Kind::Number,
-        domain,
-    }
+    column(Kind::Number, domain)
 }
 
 /// A column of prefixes in a domain, 0 for none.
 pub fn prefix(domain: u8) -> Column
     ensures { result ≡ record { kind = Prefix; domain = domain } }
 {
-    Column {
-        kind: Kind::Prefix,
-        domain,
-    }
+    column(Kind::Prefix, domain)
 }
 
 /// Declares columns at the end of a table, one after another up to the first that is refused: those

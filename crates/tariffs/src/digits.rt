@@ -4,5 +4,5 @@ ghost use Rattle.std.specs.Prelude.{◌≡◌, ◌+◌, ◌%◌};
 pub fn last_digit(number: u32) -> u8
     ensures { result ≡ 0x30 + number % 10 }
 {
-    b'0' + (number % 10) as u8
+    b'0' + u8::try_from(number % 10).unwrap()
 }
