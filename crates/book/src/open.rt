@@ -29,7 +29,7 @@ impl Draft {
         ensures cleared { memory result ≡ replicate (length cells.old) (Number 0) }
         ensures clean { UnusedAreZero result }
     {
-        cells.fill(Cell::Number(0));
+        cells.fill(Cell::ZERO);
         self.empty(cells)
     }
 }

@@ -29,7 +29,7 @@ impl Rows<'_> {
             self.cells.copy_within(next..next + 8, start);
         }
         let start = Slot { table, row: last }.start();
-        self.cells[start..start + 8].fill(Cell::Number(0));
+        self.cells[start..start + 8].fill(Cell::ZERO);
         self.counts[table] = last;
     }
 }

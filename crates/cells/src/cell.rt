@@ -14,6 +14,9 @@ pub enum Cell {
 }
 
 impl Cell {
+    /// What a cell holds that no row uses: the number 0.
+    pub const ZERO: Cell = Cell::Number(0);
+
     /// How many bytes a cell takes.
     pub fn size() -> usize
         ensures { result ≡ 12 }

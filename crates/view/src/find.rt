@@ -15,7 +15,7 @@ pub(crate) fn cell_at(book: &Book<'_>, at: Position) -> Cell
     ensures { cell_value result ≡ held (book_model book.now) (place_at at) }
 {
     let row = book.row(at.slot.table, at.slot.row).unwrap_or(&[]);
-    row.get(at.column).copied().unwrap_or(Cell::Number(0))
+    row.get(at.column).copied().unwrap_or(Cell::ZERO)
 }
 
 /// The domain of a column of a book, 0 where there is none.

@@ -19,6 +19,9 @@ pub enum Masked {
 }
 
 impl Masked {
+    /// What a cell holds that no row uses: the number 0.
+    pub const ZERO: Masked = Masked::Value(Cell::ZERO);
+
     /// How many bytes a cell of a view takes.
     pub fn size() -> usize
         ensures { result ≡ 16 }
@@ -32,7 +35,7 @@ pub fn cell_at(row: &[Masked], column: u8) -> Masked
     ensures { masked_of result ≡ cell_at (map masked_of row.now) column }
 {
     let cell = row.get(usize::from(column));
-    cell.copied().unwrap_or(Masked::Value(Cell::Number(0)))
+    cell.copied().unwrap_or(Masked::ZERO)
 }
 
 /// Writes a text as a whole, to which a width applies. A variable takes at most 12 bytes.

@@ -5,7 +5,6 @@ use crate::masked::Masked;
 use crate::size::Size;
 use crate::view::View;
 use book::Slot;
-use cells::Cell;
 
 impl View {
     /// The view of nothing: four tables without rows.
@@ -18,7 +17,7 @@ impl View {
             columns: 0,
         };
         View {
-            cells: [Masked::Value(Cell::Number(0)); 8192],
+            cells: [Masked::ZERO; 8192],
             sizes: [nothing; 4],
         }
     }

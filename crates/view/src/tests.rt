@@ -72,7 +72,7 @@ fn pseudonym(domain: u8, index: u16) -> Option<Masked> {
 
 #[test]
 fn linked_cells_of_three_domains(rt: HostRuntime) -> Result<(), Fail> {
-    let mut cells = [Cell::Number(0); 128];
+    let mut cells = [Cell::ZERO; 128];
     let mut book = draft()?.open(&mut cells);
     fill(&mut book)?;
     let mut view = View::new();
@@ -94,7 +94,7 @@ fn linked_cells_of_three_domains(rt: HostRuntime) -> Result<(), Fail> {
 
 #[test]
 fn hidden_and_shown_cells(rt: HostRuntime) -> Result<(), Fail> {
-    let mut cells = [Cell::Number(0); 128];
+    let mut cells = [Cell::ZERO; 128];
     let mut book = draft()?.open(&mut cells);
     fill(&mut book)?;
     let mut view = View::new();
@@ -110,7 +110,7 @@ fn hidden_and_shown_cells(rt: HostRuntime) -> Result<(), Fail> {
 
 #[test]
 fn tables_without_rows_or_columns(rt: HostRuntime) -> Result<(), Fail> {
-    let mut cells = [Cell::Number(0); 32];
+    let mut cells = [Cell::ZERO; 32];
     let book = draft()?.open(&mut cells);
     let mut view = View::new();
     assert_eq!(rt; view.width(2), 0);
