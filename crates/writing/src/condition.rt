@@ -1,19 +1,35 @@
 ghost use Rattle.std.specs.Prelude.{◌∷◌};
 ghost use Rattle.semantics.specs.Conditions.{term_number, term_body};
+ghost use Rattle.semantics.specs.Operators.{operator_number};
+ghost use Rattle.query.specs.declared.kind.TermKind.TheVariants.{ByPrefix};
+ghost use Rattle.query.specs.RecordKinds.{term_kind_number};
 ghost use Rattle.query.specs.Terms.{term_of};
 ghost use Rattle.writing.specs.Writing.{Appends};
 
 use crate::error::WriteError;
 use crate::record::record;
-use query::Term;
+use query::{Term, TermKind};
+use semantics::Operator;
+
+/// Appends a record of a condition.
+fn append(bytes: &mut Vec<u8>, kind: TermKind, body: &[u8]) -> Result<(), WriteError>
+    ensures { Appends (term_kind_number kind) body.now bytes.old.items result bytes.new.items }
+{
+    record(bytes, u16::from(kind), body)
+}
 
 /// Appends a comparison with a prefix, whose digits are the rest of the body.
-fn with_prefix(bytes: &mut Vec<u8>, operator: u8, left: u8, digits: &[u8]) -> Result<(), WriteError>
-    ensures { Appends 0x12 (operator ∷ left ∷ digits.now) bytes.old.items result bytes.new.items }
+fn with_prefix(
+    bytes: &mut Vec<u8>,
+    operator: Operator,
+    left: u8,
+    digits: &[u8],
+) -> Result<(), WriteError>
+    ensures { Appends (term_kind_number ByPrefix) (operator_number operator ∷ left ∷ digits.now) bytes.old.items result bytes.new.items }
 {
-    let mut body = vec![in *bytes.allocator(); operator, left]?;
+    let mut body = vec![in *bytes.allocator(); u8::from(operator), left]?;
     body.extend_from_slice(digits)?;
-    record(bytes, 0x12, body.as_slice())
+    append(bytes, TermKind::ByPrefix, body.as_slice())
 }
 
 /// Appends a condition record.
@@ -23,17 +39,23 @@ pub(crate) fn condition(bytes: &mut Vec<u8>, term: Term<'_>) -> Result<(), Write
 {
     match term {
         Term::ByColumn(operator, left, right) => {
-            record(bytes, 0x10, &[u8::from(operator), left, right])
+            append(
+                bytes,
+                TermKind::ByColumn,
+                &[u8::from(operator), left, right],
+            )
         }
         Term::ByNumber(operator, left, number) => {
             let [a, b, c, d] = number.to_le_bytes();
-            record(bytes, 0x11, &[u8::from(operator), left, a, b, c, d])
+            append(
+                bytes,
+                TermKind::ByNumber,
+                &[u8::from(operator), left, a, b, c, d],
+            )
         }
-        Term::ByPrefix(operator, left, digits) => {
-            with_prefix(bytes, u8::from(operator), left, digits)
-        }
-        Term::And => record(bytes, 0x13, &[]),
-        Term::Or => record(bytes, 0x14, &[]),
-        Term::Not => record(bytes, 0x15, &[]),
+        Term::ByPrefix(operator, left, digits) => { with_prefix(bytes, operator, left, digits) }
+        Term::And => append(bytes, TermKind::And, &[]),
+        Term::Or => append(bytes, TermKind::Or, &[]),
+        Term::Not => append(bytes, TermKind::Not, &[]),
     }
 }

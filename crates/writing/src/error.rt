@@ -1,9 +1,10 @@
 ghost use Rattle.std.specs.Prelude.{◌≡◌};
-ghost use Rattle.writing.specs.declared.error.WriteError.TheVariants.{OutOfMemory};
+ghost use Rattle.writing.specs.declared.error.WriteError.TheVariants.{OutOfMemory, TooLong};
 
 use std::alloc::{AllocError, AllocFailed};
 use std::error::Error;
 use std::fmt;
+use std::num::TryFromIntError;
 
 /// Why a record is not written.
 #[derive(Clone, Copy, PartialEq, Eq, Debug)]
@@ -25,18 +26,27 @@ impl fmt::Display for WriteError {
 
 impl Error for WriteError {}
 
+/// Of a length that does not fit two bytes.
+impl From<TryFromIntError> for WriteError {
+    ghost from_gives = { λ _ e. e ≡ TooLong };
+
+    fn from(_error: TryFromIntError) -> Self {
+        Self::TooLong
+    }
+}
+
 impl From<AllocError> for WriteError {
     ghost from_gives = { λ _ e. e ≡ OutOfMemory };
 
-    fn from(_error: AllocError) -> WriteError {
-        WriteError::OutOfMemory
+    fn from(_error: AllocError) -> Self {
+        Self::OutOfMemory
     }
 }
 
 impl<T: Drop> From<AllocFailed<T>> for WriteError {
     ghost from_gives = { λ _ e. e ≡ OutOfMemory };
 
-    fn from(_failed: AllocFailed<T>) -> WriteError {
-        WriteError::OutOfMemory
+    fn from(_failed: AllocFailed<T>) -> Self {
+        Self::OutOfMemory
     }
 }
