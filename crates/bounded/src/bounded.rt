@@ -10,6 +10,7 @@ pub struct Bounded<T, const N: usize> {
     ghost within: { count ≤ N },
 }
 
+// By hand: a generic struct with a ghost field has no derived `Clone`.
 impl<T: Copy, const N: usize> Clone for Bounded<T, N> {
     ghost is_clone = { λ list copy. copy ≡ list };
 

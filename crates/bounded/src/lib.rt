@@ -3,9 +3,10 @@
 #![tactic(auto)]
 
 mod bounded;
+mod full;
 mod list;
 #[cfg(test)]
 mod tests;
 
 pub use bounded::Bounded;
-pub use list::Full;
+pub use full::Full;

@@ -1,11 +1,10 @@
 ghost use Rattle.std.specs.Prelude.{◌≡◌, ◌+◌, ◌<◌, ◌≤◌, ◌↔◌, [], ◌∷◌, ◌++◌, length, slice_set, IsTrue, MatchOption, IsOk, IsErr};
+ghost use Rattle.std.specs.Iterator.{IsFinite};
 ghost use Rattle.bounded.specs.Bounded.{items};
+ghost use Rattle.bounded.specs.Full.{Extended};
 
 use crate::bounded::Bounded;
-
-/// What is said where a list has no room.
-#[derive(Clone, Copy, PartialEq, Eq, Debug)]
-pub struct Full;
+use crate::full::Full;
 
 impl<T: Copy, const N: usize> Bounded<T, N> {
     /// No items. The free places hold `blank`.
@@ -31,7 +30,7 @@ impl<T: Copy, const N: usize> Bounded<T, N> {
         ensures value { result ≡ length (items self.now) }
         ensures few { result ≤ N }
     {
-        self.count
+        self.as_slice().len()
     }
 
     /// Whether there are `N` items.
@@ -70,14 +69,22 @@ impl<T: Copy, const N: usize> Bounded<T, N> {
         Ok(())
     }
 
+    /// Puts the items that come behind the others, up to the first that has no room.
+    pub fn extend_from<I: Iterator<Item = T>>(&mut self, more: I) -> Result<(), Full>
+        requires { I.can_next more × IsFinite (I.remaining more) }
+        ensures { Extended I.next_gives more self.old result self.new }
+    {
+        for item in more {
+            self.push(item)?;
+        }
+        Ok(())
+    }
+
     /// Takes the last item off, where there is one.
     pub fn pop(&mut self) -> Option<T>
         ensures { MatchOption result ((items self.old ≡ []) × (self.new ≡ self.old)) (λ item. items self.old ≡ items self.new ++ item ∷ []) }
     {
-        if self.count == 0 {
-            return None;
-        }
-        let last = self.count - 1;
+        let last = self.count.checked_sub(1)?;
         self.count = last;
         Some(self.places[last])
     }
@@ -87,6 +94,7 @@ impl<T: Copy, const N: usize> Bounded<T, N> {
         ensures there { place < length (items self.old) → items self.new ≡ slice_set (items self.old) place item }
         ensures past { length (items self.old) ≤ place → self.new ≡ self.old }
     {
+        // By its number: of what is written through `get_mut` to a part of the places, nothing is known behind it.
         if place < self.count {
             self.places[place] = item;
         }

@@ -1,5 +1,5 @@
 use crate::bounded::Bounded;
-use crate::list::Full;
+use crate::full::Full;
 use std::test::Fail;
 
 #[test]
@@ -17,5 +17,15 @@ fn three_places(rt: HostRuntime) -> Result<(), Fail> {
     assert_eq!(rt; list.as_slice(), [6, 7, 9].as_slice());
     assert_eq!(rt; list.pop(), Some(9));
     assert_eq!(rt; list.len(), 2);
+    Ok(())
+}
+
+#[test]
+fn as_many_as_come(rt: HostRuntime) -> Result<(), Fail> {
+    let mut list: Bounded<u8, 3> = Bounded::new(0);
+    list.extend_from([4, 7].iter().copied())?;
+    assert_eq!(rt; list.as_slice(), [4, 7].as_slice());
+    assert_eq!(rt; list.extend_from([1, 2].iter().copied()), Err(Full));
+    assert_eq!(rt; list.as_slice(), [4, 7, 1].as_slice());
     Ok(())
 }
