@@ -1,7 +1,8 @@
 -- The terms that stand at the beginning of some bytes are those of the condition that the bytes are read as.
 use Rattle.std.proofs.Common.{◌≡◌, ℕ, zero, suc, ◌+◌, ◌<◌, ◌≤◌, Bool, true, false, cond, ◌&&◌, ◌⊎◌, leb, eqb, List, [], ◌∷◌, ◌++◌, length, Some, None, Option, sym, refl, ap, ◌∙◌, subst, inl, inr, ⊎_elim, arith}
 use Rattle.std.proofs.lemmas.List.{append_assoc, append-nil, length_push}
-use Rattle.std.proofs.lemmas.Bool.{and_from, and_left, and_right}
+use Rattle.std.proofs.lemmas.Bool.{and_from}
+use Rattle.std.proofs.lemmas.List.Folds.{list_all-append}
 use Rattle.std.specs.List.{list_all}
 use Rattle.semantics.specs.declared.operator.Operator.{Operator}
 use Rattle.semantics.specs.declared.refusal.Refusal.{Refusal}
@@ -25,32 +26,19 @@ spelled [] = []
 spelled (c ∷ stack) = spelled stack ++ terms c
 
 -- tests of lists that are joined
-group : (a b c : Bool) → ((a && b) && c) ≡ (a && (b && c))
-group true b c = refl
-group false b c = refl
-
 with_true : (b : Bool) → (b && true) ≡ b
 with_true true = refl
 with_true false = refl
 
-every-both : {X : Type 0} (p : X → Bool) (xs ys : List X) → list_all p (xs ++ ys) ≡ (list_all p xs && list_all p ys)
-every-both p [] ys = refl
-every-both p (x ∷ xs) ys = ap (λ b. p x && b) (every-both p xs ys) ∙ sym (group (p x) (list_all p xs) (list_all p ys))
-
 every-last : {X : Type 0} (p : X → Bool) (xs : List X) (x : X) → p x ≡ true → list_all p (xs ++ x ∷ []) ≡ list_all p xs
-every-last p xs x h = every-both p xs (x ∷ []) ∙ ap (λ b. list_all p xs && b) (and_from (p x) true h refl) ∙ with_true (list_all p xs)
-
-every_stop : {X : Type 0} (p : X → Bool) (xs ys : List X) (x : X) → p x ≡ false → list_all p ((xs ++ x ∷ []) ++ ys) ≡ false
-every_stop p xs ys x h =
-    every-both p (xs ++ x ∷ []) ys
-    ∙ and_left _ _ (every-both p xs (x ∷ []) ∙ and_right (list_all p xs) _ (and_left (p x) true h))
+every-last p xs x h = list_all-append p xs (x ∷ []) ∙ ap (λ b. list_all p xs && b) (and_from (p x) true h refl) ∙ with_true (list_all p xs)
 
 -- the comparisons of a condition are those of its terms
 module _ (p : Comparison → Bool) where
   every_two : (c d : Condition) (t : Term) → passes p t ≡ true → every_comparison p c ≡ list_all (passes p) (terms c) → every_comparison p d ≡ list_all (passes p) (terms d) → (every_comparison p c && every_comparison p d) ≡ list_all (passes p) ((terms c ++ terms d) ++ t ∷ [])
   every_two c d t h a b =
       ap (λ x. x && every_comparison p d) a ∙ ap (λ x. list_all (passes p) (terms c) && x) b
-      ∙ sym (every-last (passes p) (terms c ++ terms d) t h ∙ every-both (passes p) (terms c) (terms d))
+      ∙ sym (every-last (passes p) (terms c ++ terms d) t h ∙ list_all-append (passes p) (terms c) (terms d))
 
   pub every-terms : (c : Condition) → every_comparison p c ≡ list_all (passes p) (terms c)
   every-terms (compared k) = sym (with_true (p k))

@@ -44,15 +44,7 @@ impl Kinds {
     pub(crate) fn has(&self, column: u8) -> bool
         ensures { result ≡ nat_lt column (length (kinds_in self.now)) }
     {
-        usize::from(column) < self.list.len()
-    }
-
-    /// Adds a column at the end.
-    fn push(&mut self, kind: Kind)
-        requires { length (kinds_in self.old) < 8 }
-        ensures { kinds_in self.new ≡ kinds_in self.old ++ kind ∷ [] }
-    {
-        let _ = self.list.push(kind);
+        self.get(column).is_some()
     }
 
     /// The kinds of a table's columns.
@@ -61,9 +53,10 @@ impl Kinds {
         ensures { kinds_in result ≡ map (λ column. column.kind) columns.now }
     {
         let mut kinds = Kinds::none();
-        for column in columns {
-            kinds.push(column.kind);
-        }
+        kinds
+            .list
+            .extend_from(columns.iter().map(|column| column.kind))
+            .unwrap();
         kinds
     }
 
@@ -73,10 +66,14 @@ impl Kinds {
         requires { length columns.now ≤ 8 }
         ensures { PickedIs (kinds_in self.now) columns.now result }
     {
-        let mut kinds = Kinds::none();
-        for column in columns {
-            kinds.push(self.get(*column)?);
+        if !columns.iter().all(|column| self.has(*column)) {
+            return None;
         }
+        let mut kinds = Kinds::none();
+        kinds
+            .list
+            .extend_from(columns.iter().map(|column| self.at(*column)))
+            .unwrap();
         Some(kinds)
     }
 

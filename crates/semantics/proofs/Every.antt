@@ -1,29 +1,9 @@
 -- Laws of the tests `every` and `pairwise`.
 use Rattle.std.proofs.Common.{◌≡◌, ℕ, zero, suc, ◌+◌, ◌<◌, ◌≤◌, Bool, true, false, ◌&&◌, List, [], ◌∷◌, ◌++◌, map, length, get_or, drop, set, sym, refl, ap, ◌∙◌, arith}
-use Rattle.std.proofs.lemmas.List.{at_drop_more, at_drop_all}
+use Rattle.std.proofs.lemmas.List.Folds.{list_all-map}
 use Rattle.std.proofs.lemmas.Bool.{and_parts, and_from, false≢true}
 use Rattle.std.specs.List.{remove}
 use Rattle.semantics.specs.Lists.{every, pairwise}
-
--- A loop over the list: what is left of it decides.
-module _ {X : Type 0} (p : X → Bool) (xs : List X) (i : ℕ) where
-  -- the element at hand passes
-  pub every-on : (d : X) → i < length xs → p (get_or xs i d) ≡ true → every p (drop i xs) ≡ every p xs → every p (drop (i + 1) xs) ≡ every p xs
-  every-on d h t e =
-      let a : every p (drop i xs) ≡ (p (get_or xs i d) && every p (drop (i + 1) xs)) = at_drop_more (every p) xs i d h in
-      let b : (p (get_or xs i d) && every p (drop (i + 1) xs)) ≡ every p (drop (i + 1) xs) = rw t in
-      cc
-
-  -- it does not
-  pub every_not : (d : X) → i < length xs → p (get_or xs i d) ≡ false → every p (drop i xs) ≡ every p xs → false ≡ every p xs
-  every_not d h t e =
-      let a : every p (drop i xs) ≡ (p (get_or xs i d) && every p (drop (i + 1) xs)) = at_drop_more (every p) xs i d h in
-      let b : (p (get_or xs i d) && every p (drop (i + 1) xs)) ≡ false = rw t in
-      cc
-
-  -- none is left
-  pub every-end : length xs ≤ i → every p (drop i xs) ≡ every p xs → true ≡ every p xs
-  every-end h e = sym (at_drop_all (every p) xs i h) ∙ e
 
 -- What passes stays so under the edits of a list.
 module _ {X : Type 0} (p : X → Bool) where
@@ -83,5 +63,4 @@ every_of p f [] = refl
 every_of p f (x ∷ xs) = and_from (p x) (every p xs) (f x) (every_of p f xs)
 
 pub every_map : {X Y : Type 0} (p : Y → Bool) (f : X → Y) (xs : List X) → every p (map f xs) ≡ every (λ x. p (f x)) xs
-every_map p f [] = refl
-every_map p f (x ∷ xs) = ap (λ b. p (f x) && b) (every_map p f xs)
+every_map p f xs = list_all-map p f xs

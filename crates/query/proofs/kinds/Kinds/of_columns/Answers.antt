@@ -1,18 +1,12 @@
-use Rattle.std.proofs.Common.{[], refl}
+use Rattle.std.proofs.Common.{rules, arith}
+use Rattle.std.proofs.lemmas.List.{length-map}
+use Rattle.std.proofs.lemmas.Iterator.{YieldsList-from_slice, YieldsList-from_map}
 use Rattle.semantics.specs.declared.kind.Column.{Column}
-use Rattle.semantics.specs.Books.{column_at}
-use Rattle.query.specs.Kinds.{kinds_in}
-use Rattle.query.proofs.Widths.{room-taken, more_mapped, all_mapped}
+use Rattle.bounded.proofs.Extending.{all_collected}
 use Rattle.query.proofs.kinds.Kinds.of_columns.Goals as goal
-
-pub push-requires : goal.push-requires
-push-requires c =
-    room-taken (λ (column : Column). column.kind) c.args.columns.now (kinds_in c.loop-column.kinds) c.loop-column.column-index c.loop-column.invariant c.loop-column-test.true c.requires
-
-pub loop-column-preserved : goal.loop-column-preserved
-loop-column-preserved c =
-    more_mapped (λ (column : Column). column.kind) c.args.columns.now (kinds_in c.loop-column.kinds) c.loop-column.column-index c.loop-column.invariant (kinds_in c.push.new.self) (column_at [] 0) _ c.loop-column-test.true c.push.ensures refl
 
 pub returns : goal.returns
 returns c =
-    all_mapped (λ (column : Column). column.kind) c.args.columns.now (kinds_in c.loop-column.kinds) c.loop-column.column-index c.loop-column.invariant c.loop-column-test.false
+    let kind = λ (column : Column). column.kind in
+    all_collected c.none-kinds.result.list c.extend_from.new.self c.extend_from.result c.extend_from.ensures c.none-kinds.ensures
+    (YieldsList-from_map _ kind (YieldsList-from_slice c.args.columns.now cc) c.map.ensures.closure (λ x r q k. search rules)) (omega (arith, length-map c.args.columns.now kind))
