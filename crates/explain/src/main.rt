@@ -13,7 +13,7 @@ use tariffs::reader_columns;
 
 /// A query over tariffs in table 0 and two numbers in table 1.
 fn explain(rt: &HostRuntime, query: &[u8]) -> anyhow::Result<()> {
-    let mut memory = [Cell::Number(0); 32];
+    let mut memory = [Cell::ZERO; 32];
     let book = reader_columns().open(&mut memory);
     match check(query, &book) {
         Ok(plan) => {

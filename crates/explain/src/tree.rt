@@ -1,9 +1,10 @@
 //! A query that passed: the kinds of its cells, and its records as a tree. Each record stands above its
 //! parts, the left part above the right.
 
-ghost use Rattle.std.specs.Prelude.{◌+◌, ◌≤◌};
+ghost use Rattle.std.specs.Prelude.{◌+◌, ◌<◌, ◌≤◌, IfSome};
 
 use crate::words::{InWords, condition};
+use anyhow::Context;
 use query::{Plan, Record};
 
 /// A query, its plan, and where they are shown.
@@ -19,9 +20,8 @@ impl Tree<'_> {
     fn head(&self) -> anyhow::Result<()> {
         let rt = self.rt;
         let count = self.plan.count();
-        let Some(kinds) = self.plan.kinds_of(count.saturating_sub(1)) else {
-            return Ok(());
-        };
+        let kinds = self.plan.kinds_of(count.saturating_sub(1));
+        let kinds = kinds.context("a query without records")?;
         print!(rt; "A query of {count} records. The cells of its rows:")?;
         for kind in kinds.listed() {
             let name = InWords(*kind);
@@ -47,26 +47,26 @@ impl Tree<'_> {
         Ok(())
     }
 
+    /// The number of the left or only part of record `number`, which stands before it.
+    fn left(&self, number: usize) -> Option<usize>
+        ensures { IfSome result (λ left. left < number) }
+    {
+        let position = self.plan.position(number)?;
+        Some(position.left).filter(|left| *left < number)
+    }
+
     /// Record `number` and, below it, its parts.
     // By numbers of records and no boxes, as a plan has them: there is no heap below the programs.
     fn below(&self, number: usize, depth: usize) -> anyhow::Result<()>
         requires { number + depth ≤ 15 }
     {
-        let Some(position) = self.plan.position(number) else {
-            return Ok(());
-        };
-        let Some(said) = self.plan.said(self.query, number) else {
-            return Ok(());
-        };
+        let said = self.plan.said(self.query, number);
+        let said = said.context("a record that the plan does not have")?;
         self.line(number, said, depth)?;
-        let left = position.left;
-        if left >= number {
-            return Ok(());
-        }
-        match said {
-            Record::Table(_) => Ok(()),
-            Record::Select(_) | Record::Project(_) => self.below(left, depth + 1),
-            Record::Product | Record::Union | Record::Difference => {
+        match (said, self.left(number)) {
+            (Record::Table(_), _) | (_, None) => Ok(()),
+            (Record::Select(_) | Record::Project(_), Some(left)) => self.below(left, depth + 1),
+            (Record::Product | Record::Union | Record::Difference, Some(left)) => {
                 self.below(left, depth + 1)?;
                 self.below(number - 1, depth + 1)
             }

@@ -5,14 +5,21 @@
 
 use cells::Cell;
 use query::{Plan, check};
-use semantics::Refusal;
+use semantics::{Kind, Refusal};
 use tariffs::reader_columns;
 
 /// The plan of a query, or its refusal.
 fn read(query: &[u8]) -> Result<Plan, Refusal> {
-    let mut memory = [Cell::Number(0); 32];
+    let mut memory = [Cell::ZERO; 32];
     let book = reader_columns().open(&mut memory);
     check(query, &book)
+}
+
+/// The kind of a column of a query's relation, if the query passes and has a column of this number.
+fn kind(query: &[u8], column: usize) -> Option<Kind> {
+    let plan = read(query).ok()?;
+    let kinds = plan.kinds_of(plan.count().checked_sub(1)?)?;
+    kinds.listed().get(column).copied()
 }
 
 // The three functions answer with bare numbers, as the C interface has no Result and no Option.
@@ -20,10 +27,7 @@ fn read(query: &[u8]) -> Result<Plan, Refusal> {
 /// The number that a query is refused with, 0 where it passes.
 #[unsafe(no_mangle)]
 pub extern "C" fn reader_number(query: &[u8]) -> u8 {
-    match read(query) {
-        Ok(_) => 0,
-        Err(refusal) => refusal.number(),
-    }
+    read(query).err().map_or(0, |refusal| refusal.number())
 }
 
 /// The place of a refusal, or the count of records of a query that passes.
@@ -38,14 +42,5 @@ pub extern "C" fn reader_place(query: &[u8]) -> usize {
 /// The kind of a column of a query's relation, 0 where it has none of this number.
 #[unsafe(no_mangle)]
 pub extern "C" fn reader_kind(query: &[u8], column: usize) -> u8 {
-    let Ok(plan) = read(query) else {
-        return 0;
-    };
-    let Some(kinds) = plan.kinds_of(plan.count().saturating_sub(1)) else {
-        return 0;
-    };
-    match kinds.listed().get(column) {
-        Some(kind) => u8::from(*kind),
-        None => 0,
-    }
+    kind(query, column).map_or(0, u8::from)
 }

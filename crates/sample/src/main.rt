@@ -22,28 +22,30 @@ fn columns(rt: &HostRuntime, draft: &mut Draft) -> anyhow::Result<()> {
     Ok(())
 }
 
+/// Stores a tariff into table 0, as a step.
+fn store_tariff(
+    rt: &HostRuntime,
+    book: &mut Book<'_>,
+    digits: &str,
+    carrier: u32,
+    price: u32,
+) -> anyhow::Result<()> {
+    let call = format!(in rt.alloc(); "store {digits}, carrier {carrier}, {price}")?;
+    let done = store(book, 0, digits.as_bytes(), carrier, price);
+    show::step(rt, call.as_str(), done)
+}
+
 /// Three tariffs fit in 96 cells of memory, and a fourth does not.
 fn load(rt: &HostRuntime, book: &mut Book<'_>) -> anyhow::Result<()> {
-    show::step(
-        rt,
-        "store 47, carrier 1, 3100",
-        store(book, 0, b"47", 1, 3100),
-    )?;
-    show::step(
-        rt,
-        "store 4711, carrier 2, 2750",
-        store(book, 0, b"4711", 2, 2750),
-    )?;
-    show::step(
-        rt,
-        "store 48, carrier 1, 2900",
-        store(book, 0, b"48", 1, 2900),
-    )?;
-    show::step(
-        rt,
-        "store 49, carrier 2, 3000",
-        store(book, 0, b"49", 2, 3000),
-    )
+    for (digits, carrier, price) in [
+        ("47", 1, 3100),
+        ("4711", 2, 2750),
+        ("48", 1, 2900),
+        ("49", 2, 3000),
+    ] {
+        store_tariff(rt, book, digits, carrier, price)?;
+    }
+    Ok(())
 }
 
 /// A price is amended, a row struck, and its place used again.
@@ -51,18 +53,14 @@ fn change(rt: &HostRuntime, book: &mut Book<'_>) -> anyhow::Result<()> {
     let price = Cell::Number(2600);
     show::step(rt, "amend row 1: price 2600", book.amend(0, 1, 2, price))?;
     show::step(rt, "strike row 0", book.strike(0, 0))?;
-    show::step(
-        rt,
-        "store 49, carrier 2, 3000",
-        store(book, 0, b"49", 2, 3000),
-    )
+    store_tariff(rt, book, "49", 2, 3000)
 }
 
 fn run(rt: &HostRuntime) -> anyhow::Result<()> {
     println!(rt;
         "A tariff book in 96 cells of memory: four tables, of at most 96 / 32 = 3 rows each.\n"
     )?;
-    let mut memory = [Cell::Number(0); 96];
+    let mut memory = [Cell::ZERO; 96];
     let mut draft = Draft::new();
     columns(rt, &mut draft)?;
     let mut book = draft.open(&mut memory);

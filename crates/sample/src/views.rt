@@ -13,12 +13,21 @@ use view::View;
 pub(crate) fn tariffs(rt: &HostRuntime, book: &Book<'_>) -> anyhow::Result<()> {
     let filters = filters();
     let mut view = View::new();
-    view.draw(book, &filters, 7);
-    println!(rt; "Broker 7 may see all, but not the prefixes of carrier 2:")?;
-    show::view(rt, "  row    prefix   carrier     price", &view, 0)?;
-    view.draw(book, &filters, 8);
-    println!(rt; "Broker 8 may see nothing. Each cell is a variable, ?table.row.column:")?;
-    show::view(rt, "  row    prefix   carrier     price", &view, 0)
+    for (broker, seen) in [
+        (
+            7,
+            "Broker 7 may see all, but not the prefixes of carrier 2:",
+        ),
+        (
+            8,
+            "Broker 8 may see nothing. Each cell is a variable, ?table.row.column:",
+        ),
+    ] {
+        view.draw(book, &filters, broker);
+        println!(rt; "{seen}")?;
+        show::view(rt, "  row    prefix   carrier     price", &view, 0)?;
+    }
+    Ok(())
 }
 
 /// Customer 501 and 502 let brokers see their offers, and which offers are one customer's, but not whose.
@@ -28,16 +37,9 @@ fn consents() -> Result<Consents, Refusal> {
     let mut linked = [false; 8];
     shown[1] = true;
     linked[0] = true;
-    consents.set(Consent {
-        key: 501,
-        shown,
-        linked,
-    })?;
-    consents.set(Consent {
-        key: 502,
-        shown,
-        linked,
-    })?;
+    for key in [501, 502] {
+        consents.set(Consent { key, shown, linked })?;
+    }
     Ok(consents)
 }
 
@@ -60,7 +62,7 @@ fn store(book: &mut Book<'_>) -> Result<(), Refusal> {
 pub(crate) fn offers(rt: &HostRuntime) -> anyhow::Result<()> {
     let consents = consents().context("a consent was refused")?;
     let draft = columns().context("a column was refused")?;
-    let mut memory = [Cell::Number(0); 128];
+    let mut memory = [Cell::ZERO; 128];
     let mut book = draft.open(&mut memory);
     store(&mut book).context("an offer was refused")?;
     let mut view = View::new();

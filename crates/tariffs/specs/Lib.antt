@@ -1,4 +1,5 @@
 pub mod Columns
 pub mod Hexadecimal
+pub mod Replies
 pub mod Rules
 pub mod Tariffs

@@ -1,10 +1,12 @@
-//! What the programs share: columns and rows of tariffs, the rules of a broker, and hexadecimal digits.
+//! What the programs share: columns and rows of tariffs, the rules of a broker, hexadecimal digits, and the
+//! beginning of a reply.
 
 #![tactic(auto)]
 
 mod columns;
 mod digits;
 mod hexadecimal;
+mod replies;
 mod rows;
 mod rules;
 #[cfg(test)]
@@ -13,5 +15,6 @@ mod tests;
 pub use columns::{declare, number, prefix, reader_columns, tariff_columns};
 pub use digits::last_digit;
 pub use hexadecimal::from_hex;
+pub use replies::{counts, written};
 pub use rows::{store, tariff};
 pub use rules::filters;

@@ -1,4 +1,6 @@
-use crate::{declare, filters, from_hex, last_digit, number, prefix, store, tariff_columns};
+use crate::{
+    counts, declare, filters, from_hex, last_digit, number, prefix, store, tariff_columns, written,
+};
 use cells::{Cell, Prefix};
 use semantics::Refusal;
 use std::test::Fail;
@@ -17,7 +19,7 @@ fn columns_before_a_refused_one_stay(rt: HostRuntime) {
     let mut draft = tariff_columns();
     let columns = [prefix(1), number(2), number(1), number(0)];
     assert!(rt; declare(&mut draft, 1, &columns) == Err(Refusal::WrongDomain));
-    let mut memory = [Cell::Number(0); 32];
+    let mut memory = [Cell::ZERO; 32];
     let book = draft.open(&mut memory);
     assert!(rt; book.columns(1) == &columns[..2]);
     assert_eq!(rt; book.columns(0).len(), 3);
@@ -37,6 +39,14 @@ fn a_tariff_is_stored(rt: HostRuntime) -> Result<(), Fail> {
     assert!(rt; store(&mut book, 0, b"4x", 1, 1) == Err(Refusal::NotPrefix));
     assert!(rt; store(&mut book, 0, b"", 1, 1) == Err(Refusal::TableFull));
     Ok(())
+}
+
+#[test]
+fn the_beginning_of_a_reply(rt: HostRuntime) {
+    assert_eq!(rt; counts(&[2, 0, 1, 1]), Some((2, 257)));
+    assert_eq!(rt; counts(&[2, 0, 1]), None);
+    assert!(rt; written(&[7, 8, 9], 2) == [7, 8].as_slice());
+    assert!(rt; written(&[7, 8, 9], 4).is_empty());
 }
 
 #[test]
