@@ -4,11 +4,11 @@ ghost use Rattle.view.specs.Views.{masked_of};
 ghost use Rattle.compare.specs.Stacks.{stack_of, pushed, top, under, Joined, stepped};
 ghost use Rattle.compare.specs.Truths.{truth_of};
 
-use crate::comparing::{compare, compare_with_digits};
+use crate::comparing::{compare, compare_with};
 use crate::kleene::Truth;
+use crate::plain::Plain;
 use crate::stack::Truths;
 use bounded::Bounded;
-use cells::Cell;
 use query::Term;
 use view::{Masked, cell_at};
 
@@ -26,6 +26,7 @@ impl Truths {
     fn push(&mut self, truth: Truth)
         ensures { stack_of self.new ≡ pushed (truth_of truth) (stack_of self.old) }
     {
+        // A full list stays as it is, and its error says no more: no condition has more than 15 records.
         let _ = self.list.push(truth);
     }
 
@@ -56,11 +57,10 @@ impl Truths {
                 self.push(compare(operator, &cell_at(row, left), &cell_at(row, right)));
             }
             Term::ByNumber(operator, left, number) => {
-                let right = Masked::Value(Cell::Number(number));
-                self.push(compare(operator, &cell_at(row, left), &right));
+                self.push(compare_with(operator, &cell_at(row, left), Plain::Number(number)));
             }
             Term::ByPrefix(operator, left, digits) => {
-                self.push(compare_with_digits(operator, &cell_at(row, left), digits));
+                self.push(compare_with(operator, &cell_at(row, left), Plain::Digits(digits)));
             }
             Term::And => self.join(Truth::and),
             Term::Or => self.join(Truth::or),

@@ -10,36 +10,13 @@ use Rattle.view.specs.Views.{masked_of}
 use Rattle.workspace.specs.declared.block.Block.{Block}
 use Rattle.workspace.specs.Blocks.{row_at, block_rows}
 
-module _ {X : Type 0} (xs : List X) (a w : ℕ) where
-  -- a part that ends with the list
-  cut-within : a ≤ length xs → take (min (a + w) (length xs) - a) (drop a xs) ≡ take w (drop a xs)
-  cut-within h =
-      ⊎_elim
-      (λ (l : a + w < length xs). let e : min (a + w) (length xs) - a ≡ w = omega arith in ap (λ n. take n (drop a xs)) e)
-      (λ (g : length xs ≤ a + w).
-      let d = length-drop a xs in
-      take_all (min (a + w) (length xs) - a) (drop a xs) (omega arith) ∙ sym (take_all w (drop a xs) (omega arith)))
-      (cases_lt (a + w) (length xs))
-
-  pub cut : (from to : ℕ) → from ≡ min a (length xs) → to ≡ min (a + w) (length xs) → take (to - from) (drop from xs) ≡ take w (drop a xs)
-  cut from to e f =
-      ⊎_elim
-      (λ (l : a < length xs). let g : from ≡ a = omega arith in let k = cut-within (omega arith) in cc)
-      (λ (g : length xs ≤ a).
-      let p = drop_all a xs g in
-      let q = drop_all from xs (omega arith) in
-      let d = length-drop a xs in
-      let dq = length-drop from xs in
-      ap (λ l. take (to - from) l) q ∙ take_all (to - from) [] (omega arith) ∙ sym (take_all w [] (omega arith)) ∙ sym (ap (λ l. take w l) p))
-      (cases_lt a (length xs))
-
 module _ (cells : List Masked) (b : Block) where
   pub length_rows : length (block_rows cells b) ≡ b.count
   unfolding block_rows
   length_rows = length_tabled (λ r. row_at cells b.width (b.first + r)) b.count
 
-  pub row-past : (r : ℕ) → b.count ≤ r → get_or (block_rows cells b) r [] ≡ []
-  row-past r h = get_or_past (block_rows cells b) r [] (let l = length_rows in omega arith)
+  pub row_past : (r : ℕ) → b.count ≤ r → get_or (block_rows cells b) r [] ≡ []
+  row_past r h = get_or_past (block_rows cells b) r [] (let l = length_rows in omega arith)
 
   pub row_in : (r : ℕ) → r < b.count → get_or (block_rows cells b) r [] ≡ row_at cells b.width (b.first + r)
   unfolding block_rows
@@ -77,7 +54,7 @@ module _ (cells : List Masked) (b : Block) where
       let m = length-map (take b.width (drop (8 * (b.first + r)) cells)) masked_of in
       let t = length-take b.width (drop (8 * (b.first + r)) cells) in
       omega (arith, b.narrow))
-      (λ (h : b.count ≤ r). let e = ap length (row-past r h) in omega arith)
+      (λ (h : b.count ≤ r). let e = ap length (row_past r h) in omega arith)
       (cases_lt r b.count)
 
   module _ (r : ℕ) (xs : List Masked) (is : map masked_of xs ≡ get_or (block_rows cells b) r []) where

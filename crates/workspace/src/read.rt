@@ -1,22 +1,28 @@
-ghost use Rattle.std.specs.Prelude.{◌≡◌, [], map, slice_index_or};
+ghost use Rattle.std.specs.Prelude.{◌≡◌, [], map, slice_index_or, take, drop};
 ghost use Rattle.view.specs.Views.{masked_of};
 ghost use Rattle.workspace.specs.Blocks.{block_rows};
 
 use crate::block::Block;
 use view::Masked;
 
+/// So many cells from a cell on, or as many as there are.
+#[tactic(auto, using(std::proofs::lemmas::List::take_all, std::proofs::lemmas::List::drop_all))]
+fn part(work: &[Masked], from: usize, width: usize) -> &[Masked]
+    ensures { result.now ≡ take width (drop from work.now) }
+{
+    let behind = work.get(from..).unwrap_or(&[]);
+    behind.get(..width).unwrap_or(behind)
+}
+
 impl Block {
     /// The cells of a row, none where the block has no row of this number.
+    #[tactic(auto, using(crate::proofs::Reading::row_in, crate::proofs::Reading::row_past))]
     pub fn row<'w>(&self, work: &'w [Masked], row: usize) -> &'w [Masked]
         ensures { map masked_of result.now ≡ slice_index_or (block_rows work.now self.now) row [] }
     {
         if row >= self.count {
-            return &work[0..0];
+            return &[];
         }
-        let start = 8 * (self.first + row);
-        // `min`, and no `get`: a memory that ends within the row gives the part of the row that it has
-        let from = start.min(work.len());
-        let to = (start + self.width).min(work.len());
-        &work[from..to]
+        part(work, 8 * (self.first + row), self.width)
     }
 }

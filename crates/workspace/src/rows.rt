@@ -29,17 +29,11 @@ impl<'w> Iterator for Rows<'w> {
 
     ghost remaining = { item_count rows_left };
 
-    #[tactic(auto, using(crate::proofs::Reading::length_rows, crate::proofs::Reading::rows_none))]
+    #[tactic(auto, using(crate::proofs::Reading::length_rows, crate::proofs::Reading::rows_none, crate::proofs::Reading::rows_next))]
     fn next(&mut self) -> Option<&'w [Masked]> {
         let block = self.left;
-        if block.count == 0 {
-            return None;
-        }
-        self.left = Block {
-            first: block.first + 1,
-            count: block.count - 1,
-            width: block.width,
-        };
+        self.left.count = block.count.checked_sub(1)?;
+        self.left.first += 1;
         Some(block.row(self.work, 0))
     }
 }
