@@ -45,5 +45,5 @@ module _ (row : List Masked) where
       ∙ ap (stepped negating row) (leaves c ts (omega arith))
       ∙ puts (opposite (truth c row)) ts (omega arith)
 
-  pub truth-on_top : (e : Refusal) (body : List ℕ) (c : Condition) → condition_form e body ≡ done c → top (after [] (terms_in body)) ≡ truth c row
-  truth-on_top e body c h = ap (λ ts. top (after [] ts)) (condition-terms e body c h) ∙ ap top (leaves c [] (omega (arith, condition-few e body c h)))
+  pub truth_on_top : (e : Refusal) (body : List ℕ) (c : Condition) → condition_form e body ≡ done c → top (after [] (terms_in body)) ≡ truth c row
+  truth_on_top e body c h = ap (λ ts. top (after [] ts)) (condition-terms e body c h) ∙ ap top (leaves c [] (omega (arith, condition-few e body c h)))

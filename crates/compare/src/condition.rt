@@ -14,6 +14,7 @@ use view::Masked;
 
 /// What is known of a condition, the body of a select, on a row.
 // Any bytes may come, so that they are a condition is a premise and no type.
+#[tactic(auto, using(crate::proofs::Walking::truth_on_top))]
 pub fn truth(condition: &[u8], row: &[Masked]) -> Truth
     ensures { (e : Refusal) (c : Condition) → condition_form e condition.now ≡ done c → truth_of result ≡ truth c (map masked_of row.now) }
 {
