@@ -15,6 +15,9 @@ module _ (cells : List Masked) (b : Block) where
   unfolding block_rows
   length_rows = length_tabled (λ r. row_at cells b.width (b.first + r)) b.count
 
+  pub few_rows : length (block_rows cells b) ≤ 15360
+  few_rows = omega (arith, length_rows, b.low)
+
   pub row_past : (r : ℕ) → b.count ≤ r → get_or (block_rows cells b) r [] ≡ []
   row_past r h = get_or_past (block_rows cells b) r [] (let l = length_rows in omega arith)
 

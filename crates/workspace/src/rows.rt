@@ -4,6 +4,7 @@ ghost use Rattle.workspace.specs.Blocks.{block_rows};
 ghost use Rattle.workspace.specs.Rows.{row_of, rows_left};
 
 use crate::block::Block;
+use std::iter::ExactSizeIterator;
 use view::Masked;
 
 /// Goes over the rows of a block, in their order.
@@ -35,5 +36,13 @@ impl<'w> Iterator for Rows<'w> {
         self.left.count = block.count.checked_sub(1)?;
         self.left.first += 1;
         Some(block.row(self.work, 0))
+    }
+}
+
+/// How many rows are still to come.
+impl ExactSizeIterator for Rows<'_> {
+    #[tactic(auto, using(crate::proofs::Reading::length_rows))]
+    fn len(&self) -> usize {
+        self.left.count
     }
 }
