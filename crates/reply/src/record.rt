@@ -54,6 +54,7 @@ fn put_row<S: Sink>(to: &mut S, kind: RecordKind, row: &[Masked])
 }
 
 /// Puts rows, each as a record of this kind.
+#[tactic(auto, using(workspace::proofs::Reading::front_short))]
 pub(crate) fn put_rows<S: Sink>(to: &mut S, kind: RecordKind, rows: Rows<'_>)
     requires { length (flat_map (row_bytes (kind_number kind)) (rows_left rows)) ≤ S.room to.old }
     ensures { S.takes to.old (flat_map (row_bytes (kind_number kind)) (rows_left rows.entry)) to.new }

@@ -60,6 +60,10 @@ module _ (cells : List Masked) (b : Block) where
       (λ (h : b.count ≤ r). let e = ap length (row_past r h) in omega arith)
       (cases_lt r b.count)
 
+  -- the cells of the first row that is left are no more than 8
+  pub front_short : (xs : List Masked) (rest : List (List semantics.Masked)) → block_rows cells b ≡ map masked_of xs ∷ rest → length xs ≤ 8
+  front_short xs rest e = let f = ap (λ rows. length (get_or rows 0 [])) e in omega (arith, rows-short 0, length-map xs masked_of)
+
   module _ (r : ℕ) (xs : List Masked) (is : map masked_of xs ≡ get_or (block_rows cells b) r []) where
     pub row-short : length xs ≤ 8
     row-short = let e = ap length is in let m = length-map xs masked_of in omega (arith, rows-short r)
