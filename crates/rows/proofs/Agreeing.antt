@@ -24,14 +24,6 @@ agree_on a others rest b e h =
     ap (λ l. all_agree (map cell_and_group l)) e
     ∙ ap (λ t. t && all_agree (map cell_and_group others)) (list_all-map (agree (cell_and_group a)) cell_and_group others ∙ sym h)
 
--- the cells of two rows, put one row after the other
-pub rows_joined : (f g : semantics.Masked → semantics.Masked) (none one two : List Grouped) (r s : List semantics.Masked) → ((c : semantics.Masked) → f c ≡ g c)
-    → none ≡ [] → one ≡ none ++ map (with_group f) r → two ≡ one ++ map (with_group f) s → two ≡ map (with_group g) (r ++ s)
-rows_joined f g none one two r s e n o t =
-    t ∙ ap (λ l. l ++ map (with_group f) s) (o ∙ ap (λ l. l ++ map (with_group f) r) n)
-    ∙ sym (map-append (with_group f) r s)
-    ∙ map_agree (with_group f) (with_group g) (r ++ s) (λ c m. ap (λ x. record { cell = c; group = x }) (e c))
-
 -- A test of all pairs of a list's elements, where it does not matter which comes first: it is enough to test each with those after it.
 module _ {X : Type 0} (q : X → X → Bool) (self : (x : X) → q x x ≡ true) (turned : (x y : X) → q x y ≡ q y x) where
   abbrev later : List X → Bool

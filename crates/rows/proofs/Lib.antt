@@ -1,3 +1,4 @@
 pub mod Uniting
+pub mod Joining
 pub mod Agreeing
 pub mod Columnwise

@@ -1,9 +1,9 @@
-ghost use Rattle.std.specs.Prelude.{◌≡◌, ◌+◌, ◌≤◌, ◌++◌, map, length};
+ghost use Rattle.std.specs.Prelude.{◌≡◌, ◌≤◌, ◌++◌, map, length};
 ghost use Rattle.std.specs.List.{list_all};
 ghost use Rattle.bounded.specs.Bounded.{items};
 ghost use Rattle.semantics.specs.Compatible.{group_of};
 ghost use Rattle.view.specs.Views.{masked_of};
-ghost use Rattle.rows.specs.Rows.{agree, all_agree, cell_and_group, with_group, group_after};
+ghost use Rattle.rows.specs.Rows.{agree, all_agree, cell_and_group, with_group};
 
 use crate::columns::differ;
 use crate::unite::Groups;
@@ -35,30 +35,23 @@ impl Member {
     }
 }
 
-/// Puts the cells of a row behind the others, with their groups.
-fn add_row(members: &mut Bounded<Member, 16>, groups: &Groups, row: &[Masked])
-    requires { length (items members.old) + length row.now ≤ 16 }
-    ensures { map cell_and_group (items members.new) ≡ map cell_and_group (items members.old) ++ map (with_group (group_after (items groups.now.united))) (map masked_of row.now) }
-{
-    for cell in row {
-        let group = groups.of(*cell);
-        let _ = members.push(Member { cell: *cell, group });
-    }
-}
-
 /// The cells of two rows of at most 8, with their groups.
 pub(crate) fn members(a: &[Masked], b: &[Masked]) -> Bounded<Member, 16>
     requires { (length a.now ≤ 8) × (length b.now ≤ 8) }
     ensures { map cell_and_group (items result) ≡ map (with_group (group_of (map masked_of a.now) (map masked_of b.now))) (map masked_of a.now ++ map masked_of b.now) }
 {
     let groups = Groups::of_columns(a, b);
-    let blank = Masked::Value(Cell::Number(0));
+    let blank = Masked::Value(Cell::ZERO);
     let mut members = Bounded::new(Member {
         cell: blank,
         group: blank,
     });
-    add_row(&mut members, &groups, a);
-    add_row(&mut members, &groups, b);
+    members
+        .extend_from(a.iter().chain(b).map(|cell| Member {
+            cell: *cell,
+            group: groups.of(*cell),
+        }))
+        .unwrap();
     members
 }
 
@@ -66,13 +59,8 @@ pub(crate) fn members(a: &[Masked], b: &[Masked]) -> Bounded<Member, 16>
 pub(crate) fn all_agree(members: &[Member]) -> bool
     ensures { result ≡ all_agree (map cell_and_group members.now) }
 {
-    let mut rest = members;
-    // No other place walks so: an iterator for it would be no plainer.
-    while let Some((member, others)) = rest.split_first() {
-        if !member.agrees_with_all(others) {
-            return false;
-        }
-        rest = others;
+    match members.split_first() {
+        Some((member, others)) => member.agrees_with_all(others) && all_agree(others),
+        None => true,
     }
-    true
 }

@@ -30,7 +30,7 @@ impl Groups {
     fn apart() -> Groups
         ensures { items result.united ≡ [] }
     {
-        let blank = Masked::Value(Cell::Number(0));
+        let blank = Masked::Value(Cell::ZERO);
         Groups {
             united: Bounded::new((blank, blank)),
         }
@@ -52,7 +52,7 @@ impl Groups {
     {
         let (first, second) = (self.of(x), self.of(y));
         if first != second {
-            let _ = self.united.push((first, second));
+            self.united.push((first, second)).unwrap();
         }
     }
 
