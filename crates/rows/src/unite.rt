@@ -45,6 +45,7 @@ impl Groups {
     }
 
     /// Puts two cells into one group.
+    #[tactic(auto, using(crate::proofs::Uniting::united_by))]
     fn unite(&mut self, x: Masked, y: Masked)
         requires { length (items self.old.united) < 8 }
         ensures one { (c : semantics.Masked) → group_after (items self.new.united) c ≡ united (group_after (items self.old.united) (masked_of x)) (group_after (items self.old.united) (masked_of y)) (group_after (items self.old.united) c) }

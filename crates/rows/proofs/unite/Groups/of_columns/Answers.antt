@@ -14,9 +14,6 @@ loop-x-preserved c =
       many = omega (arith, ap (length {A = Masked}) left.0);
     }
 
-pub unite-requires : goal.unite-requires
-unite-requires c = omega (arith, ap (length {A = Masked}) c.in-Some.ensures.steps.0)
-
 pub returns : goal.returns
 returns c =
     united-all (items c.loop-x.groups.united) _ _ c.args.a.now c.args.b.now
