@@ -80,13 +80,6 @@ columns_apart a b l e =
     let n = length-map b masked_of in
     sym (column_apart (map masked_of a) (map masked_of b) f.0 d d (omega arith) (omega arith) f.2)
 
--- rows of different lengths
-pub unlike_rows : (a b : List Masked) → (length a ≡ length b → ⊥) → eqb (length a) (length b) ≡ compatible (map masked_of a) (map masked_of b)
-unlike_rows a b h =
-    let l = length-map a masked_of in
-    let m = length-map b masked_of in
-    ne_eqb (length a) (length b) h ∙ sym (and_left _ _ (ne_eqb (length (map masked_of a)) (length (map masked_of b)) (λ e. h (omega arith))))
-
 -- what the answer means
 pub answer_means : (a b : List Masked) (r : Bool) → (length a ≤ 8 → r ≡ compatible (map masked_of a) (map masked_of b)) → CompatibleIff (map masked_of a) (map masked_of b) r
 answer_means a b r h columns tables short few proper over =

@@ -8,7 +8,6 @@ ghost use Rattle.rows.specs.Rows.{agree, all_agree, cell_and_group, with_group};
 use crate::columns::differ;
 use crate::unite::Groups;
 use bounded::Bounded;
-use cells::Cell;
 use view::Masked;
 
 /// A cell of one of two rows, and what its group goes by.
@@ -41,16 +40,17 @@ pub(crate) fn members(a: &[Masked], b: &[Masked]) -> Bounded<Member, 16>
     ensures { map cell_and_group (items result) ≡ map (with_group (group_of (map masked_of a.now) (map masked_of b.now))) (map masked_of a.now ++ map masked_of b.now) }
 {
     let groups = Groups::of_columns(a, b);
-    let blank = Masked::Value(Cell::ZERO);
     let mut members = Bounded::new(Member {
-        cell: blank,
-        group: blank,
+        cell: Masked::ZERO,
+        group: Masked::ZERO,
     });
     members
-        .extend_from(a.iter().chain(b).map(|cell| Member {
-            cell: *cell,
-            group: groups.of(*cell),
-        }))
+        .extend_from(
+            a.iter().chain(b).map(|cell| Member {
+                cell: *cell,
+                group: groups.of(*cell),
+            }),
+        )
         .unwrap();
     members
 }

@@ -31,6 +31,7 @@ const O: Masked = Masked::Pseudonym {
     index: 0,
 };
 
+// As in other crates' tests: shorter than a crate that would share it.
 fn number(n: u32) -> Masked {
     Masked::Value(Cell::Number(n))
 }

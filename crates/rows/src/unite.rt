@@ -6,7 +6,6 @@ ghost use Rattle.view.specs.Views.{masked_of};
 ghost use Rattle.rows.specs.Rows.{group_after};
 
 use bounded::Bounded;
-use cells::Cell;
 use view::Masked;
 
 /// Groups of cells, each of which goes by one of its cells. At first each cell is a group of its own.
@@ -30,9 +29,8 @@ impl Groups {
     fn apart() -> Groups
         ensures { items result.united ≡ [] }
     {
-        let blank = Masked::Value(Cell::ZERO);
         Groups {
-            united: Bounded::new((blank, blank)),
+            united: Bounded::new((Masked::ZERO, Masked::ZERO)),
         }
     }
 
