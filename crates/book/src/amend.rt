@@ -1,6 +1,6 @@
-ghost use Rattle.std.specs.Prelude.{◌≡◌, ◌<◌, length, slice_set};
+ghost use Rattle.std.specs.Prelude.{◌≡◌, ◌<◌, IfOk, length, slice_set};
 ghost use Rattle.semantics.specs.Books.{limit_of, may_amend, amended};
-ghost use Rattle.semantics.specs.Outcomes.{Answers, Steps, Kept, done};
+ghost use Rattle.semantics.specs.Outcomes.{AnswersAs, Steps, Kept, done};
 ghost use Rattle.cells.specs.Cells.{cell_value};
 ghost use Rattle.book.specs.Books.{book_model, memory, UnusedAreZero};
 ghost use Rattle.book.specs.Layout.{place};
@@ -22,9 +22,16 @@ impl Rows<'_> {
 }
 
 impl Book<'_> {
-    /// The questions of an amendment.
-    fn may_amend(&self, table: usize, row: usize, column: usize, cell: Cell) -> Result<(), Refusal>
-        ensures { Answers result (may_amend (book_model self.now) table row column (cell_value cell)) }
+    /// The questions of an amendment, and the slot of the row.
+    fn may_amend(
+        &self,
+        table: usize,
+        row: usize,
+        column: usize,
+        cell: Cell,
+    ) -> Result<Slot, Refusal>
+        ensures answers { AnswersAs (λ _. tt) result (may_amend (book_model self.now) table row column (cell_value cell)) }
+        ensures at { IfOk result (λ at. (at.table ≡ table) × (at.row ≡ row)) }
     {
         let count = self.rows.counts.get(table).ok_or(Refusal::NoTable)?;
         if row >= *count {
@@ -35,15 +42,15 @@ impl Book<'_> {
         if column.kind != cell.kind() {
             return Err(Refusal::WrongKind(0));
         }
-        Ok(())
+        Ok(Slot { table, row })
     }
 
     /// Replaces a cell that there is by one of its kind.
-    fn replace(&mut self, table: usize, row: usize, column: usize, cell: Cell)
-        requires { may_amend (book_model self.old) table row column (cell_value cell) ≡ done tt }
-        ensures { amended (book_model self.old) table row column (cell_value cell) ≡ done (book_model self.new) }
+    fn replace(&mut self, at: Slot, column: usize, cell: Cell)
+        requires { may_amend (book_model self.old) at.table at.row column (cell_value cell) ≡ done tt }
+        ensures { amended (book_model self.old) at.table at.row column (cell_value cell) ≡ done (book_model self.new) }
     {
-        self.rows.put(Slot { table, row }, column, cell);
+        self.rows.put(at, column, cell);
     }
 
     /// Replaces one cell of a row.
@@ -58,8 +65,8 @@ impl Book<'_> {
         ensures kept { Kept result (memory self.old) (memory self.new) }
         ensures clean { UnusedAreZero self.new }
     {
-        self.may_amend(table, row, column, cell)?;
-        self.replace(table, row, column, cell);
+        let at = self.may_amend(table, row, column, cell)?;
+        self.replace(at, column, cell);
         Ok(())
     }
 }

@@ -14,10 +14,7 @@ use semantics::{Column, Kind, Refusal};
 pub(crate) fn columns_of(tables: &[Columns], table: usize) -> &[Column]
     ensures { result.now ≡ slice_index_or (columns_in tables.now) table [] }
 {
-    match tables.get(table) {
-        Some(columns) => columns.as_slice(),
-        None => &[],
-    }
+    tables.get(table).map_or(&[], |columns| columns.as_slice())
 }
 
 /// Whether the column is of another domain, or of this kind.
@@ -42,7 +39,7 @@ fn add_column(tables: &mut [Columns], table: usize, column: Column)
     requires { (table < length tables.old) × (length (slice_index_or (columns_in tables.old) table []) < 8) }
     ensures { columns_in tables.new ≡ added (columns_in tables.old) table column }
 {
-    let _ = tables[table].push(column);
+    tables[table].push(column).unwrap();
 }
 
 impl Draft {

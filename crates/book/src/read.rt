@@ -32,22 +32,21 @@ impl Book<'_> {
     }
 
     /// The cells of a row that there is.
-    fn cells_of(&self, table: usize, row: usize) -> &[Cell]
-        requires { row < length (rows_of (book_model self.now) table) }
-        ensures { map cell_value result.now ≡ slice_index_or (rows_of (book_model self.now) table) row [] }
+    fn cells_of(&self, at: Slot) -> &[Cell]
+        requires { at.row < length (rows_of (book_model self.now) at.table) }
+        ensures { map cell_value result.now ≡ slice_index_or (rows_of (book_model self.now) at.table) at.row [] }
     {
-        let slot = Slot { table, row };
-        &slot.cells(self.rows.cells)[..self.tables[table].len()]
+        &at.cells(self.rows.cells)[..self.tables[at.table].len()]
     }
 
     /// The cells of a row, where there is one of this number.
     pub fn row(&self, table: usize, row: usize) -> Option<&[Cell]>
         ensures { RowAt (book_model self.now) table row result }
     {
-        // By an early return: `then` says no more in its line, and wants a proof by cases.
+        // By an early return: what `then` lends would be said in a clause of its closure again.
         if row >= self.row_count(table) {
             return None;
         }
-        Some(self.cells_of(table, row))
+        Some(self.cells_of(Slot { table, row }))
     }
 }

@@ -18,6 +18,7 @@ impl Slot {
     pub fn new(table: usize, row: usize) -> Option<Slot>
         ensures { SlotOf table row result }
     {
+        // By an early return: a closure that makes a slot would state the bounds in a clause again.
         if table >= 4 || row >= 256 {
             return None;
         }

@@ -28,7 +28,9 @@ fn fitting(columns: &[Column], row: &[Cell]) -> Result<(), Refusal>
     requires { length columns.now ≤ 8 }
     ensures { Answers result (fitting 0 columns.now (map cell_value row.now)) }
 {
+    // By a match: a place is the failure here, and `map_or` would read it as a success.
     match first_unfit(columns, row) {
+        // `as` keeps the place, which is that of one of at most 8 columns.
         Some(place) => Err(Refusal::WrongKind(place as u8)),
         None => Ok(()),
     }

@@ -1,6 +1,6 @@
-ghost use Rattle.std.specs.Prelude.{◌≡◌, ◌-◌, ◌<◌, ◌≤◌, length, slice_index, slice_set};
+ghost use Rattle.std.specs.Prelude.{◌≡◌, ◌-◌, ◌<◌, ◌≤◌, IfOk, length, slice_index, slice_set};
 ghost use Rattle.semantics.specs.Books.{limit_of, may_strike, struck};
-ghost use Rattle.semantics.specs.Outcomes.{Answers, Steps, Kept, done};
+ghost use Rattle.semantics.specs.Outcomes.{AnswersAs, Steps, Kept, done};
 ghost use Rattle.book.specs.Books.{book_model, memory, UnusedAreZero};
 ghost use Rattle.book.specs.Layout.{Removed};
 
@@ -35,23 +35,24 @@ impl Rows<'_> {
 }
 
 impl Book<'_> {
-    /// The questions of a strike.
-    fn may_strike(&self, table: usize, row: usize) -> Result<(), Refusal>
-        ensures { Answers result (may_strike (book_model self.now) table row) }
+    /// The questions of a strike, and the slot of the row.
+    fn may_strike(&self, table: usize, row: usize) -> Result<Slot, Refusal>
+        ensures answers { AnswersAs (λ _. tt) result (may_strike (book_model self.now) table row) }
+        ensures at { IfOk result (λ at. (at.table ≡ table) × (at.row ≡ row)) }
     {
         let count = self.rows.counts.get(table).ok_or(Refusal::NoTable)?;
         if row >= *count {
             return Err(Refusal::NoRow);
         }
-        Ok(())
+        Ok(Slot { table, row })
     }
 
     /// Takes away a row that there is.
-    fn remove(&mut self, table: usize, row: usize)
-        requires { may_strike (book_model self.old) table row ≡ done tt }
-        ensures { struck (book_model self.old) table row ≡ done (book_model self.new) }
+    fn remove(&mut self, at: Slot)
+        requires { may_strike (book_model self.old) at.table at.row ≡ done tt }
+        ensures { struck (book_model self.old) at.table at.row ≡ done (book_model self.new) }
     {
-        self.rows.remove(Slot { table, row });
+        self.rows.remove(at);
     }
 
     /// Strikes a row; later rows of its table move up by one.
@@ -60,8 +61,8 @@ impl Book<'_> {
         ensures kept { Kept result (memory self.old) (memory self.new) }
         ensures clean { UnusedAreZero self.new }
     {
-        self.may_strike(table, row)?;
-        self.remove(table, row);
+        let at = self.may_strike(table, row)?;
+        self.remove(at);
         Ok(())
     }
 }

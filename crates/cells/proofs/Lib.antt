@@ -1,3 +1,2 @@
-pub mod Padding
 pub mod Canonical
 pub mod Same

@@ -24,6 +24,7 @@ impl Prefix {
         let count = digits.len();
         let mut places = [0; 8];
         places[0..count].copy_from_slice(digits);
+        // `as` keeps the count, which is at most 8.
         Prefix {
             places,
             count: count as u8,
@@ -52,14 +53,12 @@ impl Prefix {
 /// Its digits.
 impl fmt::Display for Prefix {
     fn fmt<W: fmt::Write>(&self, f: &mut fmt::Formatter<W>) -> fmt::Result {
-        match str::from_utf8(self.digits()) {
-            Ok(text) => f.pad(text),
-            Err(_) => Err(fmt::Error),
-        }
+        f.pad(str::from_utf8(self.digits()).or(Err(fmt::Error))?)
     }
 }
 
 /// Prefixes with the same digits are the same structure.
+#[tactic(auto, using(crate::proofs::Canonical::canonical))]
 pub(crate) fn prefixes_are_canonical()
     ensures { Canonical }
 {}

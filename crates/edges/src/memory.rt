@@ -20,6 +20,7 @@ fn a_row_for_each_32_cells_up_to_256(rt: HostRuntime) {
     assert_eq!(rt; limit(&mut [cell; 9000]), 256);
 }
 
+// The kinds are numbers here, as the rules have them: 1 of a number.
 /// Stores rows of one number until a store is refused, and says how many were stored and which
 /// refusal ended it.
 fn fill(memory: &mut [Cell]) -> Result<(u32, Option<u8>), Refusal> {

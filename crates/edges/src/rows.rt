@@ -5,6 +5,7 @@ use semantics::Refusal;
 use std::array;
 use std::test::Fail;
 
+// The kinds are numbers here, as the rules have them: 1 of a number, 2 of a prefix.
 /// Table 0 has a number and a prefix.
 fn columns() -> Result<Draft, Refusal> {
     let mut draft = Draft::new();

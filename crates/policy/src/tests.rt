@@ -6,6 +6,7 @@ use cells::{Cell, Prefix};
 use semantics::{Consent, Mark, Refusal, Rule, Sign, Test};
 use std::test::Fail;
 
+/// A rule from which those of the tests differ in some fields.
 const ALLOW: Rule = Rule {
     broker: 7,
     table: 3,
@@ -19,6 +20,7 @@ fn numbered(answer: Result<(), Refusal>) -> Result<(), u8> {
     answer.map_err(|refusal| refusal.number())
 }
 
+// A maker of one cell, shorter than a crate of tests that would share it.
 fn prefix() -> Result<Cell, Refusal> {
     Ok(Cell::Prefix(Prefix::from_bytes(b"47")?))
 }
@@ -53,34 +55,15 @@ fn rules_are_questioned(rt: HostRuntime) {
     };
     assert_eq!(rt;
         numbered(filters.add(Rule {
-            broker: 7,
             table: 4,
             column: 8,
-            sign: Sign::Allow,
             test: far,
+            ..ALLOW
         })),
         Err(1)
     );
-    assert_eq!(rt;
-        numbered(filters.add(Rule {
-            broker: 7,
-            table: 3,
-            column: 8,
-            sign: Sign::Allow,
-            test: Test::Always,
-        })),
-        Err(7)
-    );
-    assert_eq!(rt;
-        numbered(filters.add(Rule {
-            broker: 7,
-            table: 3,
-            column: 0,
-            sign: Sign::Allow,
-            test: far,
-        })),
-        Err(7)
-    );
+    assert_eq!(rt; numbered(filters.add(Rule { column: 8, ..ALLOW })), Err(7));
+    assert_eq!(rt; numbered(filters.add(Rule { test: far, ..ALLOW })), Err(7));
     assert_eq!(rt; filters.rules().len(), 0);
     let last = Test::Holds {
         column: 7,
@@ -88,11 +71,9 @@ fn rules_are_questioned(rt: HostRuntime) {
     };
     assert_eq!(rt;
         numbered(filters.add(Rule {
-            broker: 7,
-            table: 3,
             column: 7,
-            sign: Sign::Allow,
             test: last,
+            ..ALLOW
         })),
         Ok(())
     );
@@ -102,22 +83,15 @@ fn rules_are_questioned(rt: HostRuntime) {
 fn prohibit_beats_allow(rt: HostRuntime) -> Result<(), Fail> {
     let mut filters = Filters::new();
     filters.add(Rule {
-        broker: 7,
         table: 0,
-        column: 0,
         sign: Sign::Prohibit,
         test: Test::Holds {
             column: 1,
             number: 2,
         },
+        ..ALLOW
     })?;
-    filters.add(Rule {
-        broker: 7,
-        table: 0,
-        column: 0,
-        sign: Sign::Allow,
-        test: Test::Always,
-    })?;
+    filters.add(Rule { table: 0, ..ALLOW })?;
     let one = [prefix()?, Cell::Number(1)];
     let two = [prefix()?, Cell::Number(2)];
     let own = [
@@ -143,14 +117,12 @@ fn prohibit_beats_allow(rt: HostRuntime) -> Result<(), Fail> {
 fn tests_want_a_number(rt: HostRuntime) -> Result<(), Fail> {
     let mut filters = Filters::new();
     filters.add(Rule {
-        broker: 7,
         table: 0,
-        column: 0,
-        sign: Sign::Allow,
         test: Test::Holds {
             column: 1,
             number: 47,
         },
+        ..ALLOW
     })?;
     assert_eq!(rt;
         filters.mark(7, 0, &[Cell::Number(1), Cell::Number(47)], 0),
@@ -230,28 +202,10 @@ fn consents_mark_table_three(rt: HostRuntime) -> Result<(), Fail> {
 #[test]
 fn policies_stack(rt: HostRuntime) -> Result<(), Fail> {
     let mut wide = Filters::new();
-    wide.add(Rule {
-        broker: 7,
-        table: 3,
-        column: 0,
-        sign: Sign::Allow,
-        test: Test::Always,
-    })?;
-    wide.add(Rule {
-        broker: 7,
-        table: 3,
-        column: 1,
-        sign: Sign::Allow,
-        test: Test::Always,
-    })?;
+    wide.add(ALLOW)?;
+    wide.add(Rule { column: 1, ..ALLOW })?;
     let mut narrow = Filters::new();
-    narrow.add(Rule {
-        broker: 7,
-        table: 3,
-        column: 1,
-        sign: Sign::Allow,
-        test: Test::Always,
-    })?;
+    narrow.add(Rule { column: 1, ..ALLOW })?;
     let mut consents = Consents::new();
     consents.set(consent(9))?;
     let stack = Both {

@@ -8,7 +8,7 @@ ghost use Rattle.view.specs.Drawing.{AllDrawn, DrawnFor, HasNumber, counted};
 ghost use Rattle.view.specs.Sizes.{size_at};
 ghost use Rattle.view.specs.Views.{view_tables, width_in};
 
-use crate::mask::mask;
+use crate::mask::Drawing;
 use crate::masked::Masked;
 use crate::position::Position;
 use crate::size::Size;
@@ -47,14 +47,18 @@ impl<P: Policy> Scene<'_, P> {
         requires drawn { DrawnFor (P.Policy.meaning self.now.policy.now) self.now.broker (book_model self.now.book.now) (place_of slot.table slot.row 0) cells.old numbers.old }
         ensures { DrawnFor (P.Policy.meaning self.now.policy.now) self.now.broker (book_model self.now.book.now) (place_of slot.table (slot.row + 1) 0) cells.new numbers.new }
     {
-        let Some(values) = self.book.row(slot.table, slot.row) else {
-            return;
-        };
+        let values = self.book.row(slot.table, slot.row).unwrap();
         // By number: it is what the policy and the position are asked for, and no value is read here.
         for column in 0..values.len() {
             let mark = self.policy.mark(self.broker, slot.table, values, column);
             let at = Position { slot, column };
-            let masked = mask(cells, numbers, self.book, at, mark);
+            let drawing = Drawing {
+                cells,
+                numbers,
+                book: self.book,
+                at,
+            };
+            let masked = drawing.mask(mark);
             put(cells, numbers, at, masked);
         }
     }

@@ -4,7 +4,7 @@ ghost use Rattle.book.specs.Layout.{place};
 use book::Slot;
 
 /// Where a cell of a book stands: in a column of a row, which has its slot in memory.
-#[derive(Clone, Copy)]
+#[derive(Clone, Copy, PartialEq, Eq, Debug)]
 pub(crate) struct Position {
     pub(crate) slot: Slot,
     pub(crate) column: usize,
@@ -19,6 +19,7 @@ impl Position {
         ensures { PositionOf table row column result }
     {
         let slot = Slot::new(table, row)?;
+        // By an early return: a closure that makes a position would state its bound in a clause again.
         if column >= 8 {
             return None;
         }

@@ -38,22 +38,21 @@ impl View {
     }
 
     /// The cells of a row that there is.
-    fn cells_of(&self, table: usize, row: usize) -> &[Masked]
-        requires { row < length (slice_index_or (view_tables self.now) table []) }
-        ensures { map masked_of result.now ≡ slice_index_or (slice_index_or (view_tables self.now) table []) row [] }
+    fn cells_of(&self, at: Slot) -> &[Masked]
+        requires { at.row < length (slice_index_or (view_tables self.now) at.table []) }
+        ensures { map masked_of result.now ≡ slice_index_or (slice_index_or (view_tables self.now) at.table []) at.row [] }
     {
-        let slot = Slot { table, row };
-        &slot.cells(&self.cells)[..self.sizes[table].columns]
+        &at.cells(&self.cells)[..self.sizes[at.table].columns]
     }
 
     /// The cells of a row, where there is one of this number.
     pub fn row(&self, table: usize, row: usize) -> Option<&[Masked]>
         ensures { RowSeen (view_tables self.now) table row result }
     {
-        // By an early return, as a book reads a row.
+        // By an early return: what `then` lends would be said in a clause of its closure again.
         if row >= self.row_count(table) {
             return None;
         }
-        Some(self.cells_of(table, row))
+        Some(self.cells_of(Slot { table, row }))
     }
 }

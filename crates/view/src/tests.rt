@@ -29,6 +29,7 @@ const LINKED: One = One {
 
 const SHOWN: One = One { given: Mark::Shown };
 
+// The kinds are numbers here, as the rules have them: 1 of a number.
 /// Three columns in table 0, of the domains 1, 2 and none, and three in table 2, of 2, 3 and 1.
 fn draft() -> Result<Draft, Refusal> {
     let mut draft = Draft::new();
@@ -58,6 +59,7 @@ fn seen(view: &View, table: usize, row: usize, column: usize) -> Option<Masked> 
     view.row(table, row)?.get(column).copied()
 }
 
+// The makers of cells are shorter than a crate of tests that would share them.
 fn number(n: u32) -> Option<Masked> {
     Some(Masked::Value(Cell::Number(n)))
 }

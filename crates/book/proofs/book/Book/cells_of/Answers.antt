@@ -9,22 +9,11 @@ use Rattle.book.proofs.Listing.{columns-at}
 use Rattle.book.proofs.Memory.{row-known, row_read, slot_whole}
 use Rattle.book.proofs.book.Book.cells_of.Goals as goal
 
-pub bounds-self-table : goal.bounds-self-table
-bounds-self-table c =
-    let s = c.args.self.now in
-    (row-known (columns_in s.tables) s.rows.counts (memory s) c.args.table c.args.row s.fitting c.requires).0
-
-pub invariant_of-slot : goal.invariant_of-slot
-invariant_of-slot c =
-    let s = c.args.self.now in
-    let k = row-known (columns_in s.tables) s.rows.counts (memory s) c.args.table c.args.row s.fitting c.requires in
-    record { four = k.0; low = omega arith }
-
 pub slice_bounds-result-end : goal.slice_bounds-result-end
 slice_bounds-result-end c =
     let s = c.args.self.now in
-    let k = row-known (columns_in s.tables) s.rows.counts (memory s) c.args.table c.args.row s.fitting c.requires in
-    let n = ap length c.cells.ensures ∙ slot_whole (memory s) (row_start c.args.table c.args.row) (omega arith) in
+    let k = row-known (columns_in s.tables) s.rows.counts (memory s) c.args.at.table c.args.at.row s.fitting c.requires in
+    let n = ap length c.cells.ensures ∙ slot_whole (memory s) (row_start c.args.at.table c.args.at.row) (omega arith) in
     let w = c.len.ensures.few in
     sym (length-take-le c.len.result c.cells.result.now (omega arith))
 
@@ -32,10 +21,10 @@ pub returns : goal.returns
 returns c =
     let s = c.args.self.now in
     let S = columns_in s.tables in
-    let t = c.args.table in
-    let k = row-known S s.rows.counts (memory s) t c.args.row s.fitting c.requires in
-    let w = ap length (columns-at s.tables t c.index-self-table.result (omega (arith, s.four))) in
-    let part = drop (row_start t c.args.row) (memory s) in
+    let t = c.args.at.table in
+    let k = row-known S s.rows.counts (memory s) t c.args.at.row s.fitting c.requires in
+    let w = ap length (columns-at s.tables t c.index-self-at.result (omega (arith, s.four))) in
+    let part = drop (row_start t c.args.at.row) (memory s) in
     ap (map cell_value)
     (ap (take c.len.result) c.cells.ensures ∙ take-take c.len.result 8 part c.len.ensures.few ∙ ap (λ m. take m part) (c.len.ensures.value ∙ sym w))
-    ∙ row_read S s.rows.counts (memory s) t c.args.row k.0 k.1 (omega arith)
+    ∙ row_read S s.rows.counts (memory s) t c.args.at.row k.0 k.1 (omega arith)

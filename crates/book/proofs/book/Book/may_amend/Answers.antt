@@ -10,21 +10,22 @@ use Rattle.cells.specs.Cells.{cell_value}
 use Rattle.book.specs.Books.{memory}
 use Rattle.book.specs.Columns.{columns_in}
 use Rattle.book.proofs.Amending.{amend_row, amend_column, amend_kind}
+use Rattle.book.proofs.Memory.{within}
 use Rattle.book.proofs.book.Book.may_amend.Goals as goal
 
 -- where there is no column
 abbrev none : Column
 none = record { kind = Number; domain = 0 }
 
-pub returns-then-row-count : goal.returns-then-row-count
-returns-then-row-count c =
+pub returns-then-row-count-clause-answers : goal.returns-then-row-count-clause-answers
+returns-then-row-count-clause-answers c =
     let s = c.args.self.now in
     let found = rw c.in_ok-count.ensures.ok_part at c.get.ensures.lookup in
     let n = found.3.1 0 in
     amend_row (columns_in s.tables) s.rows.counts (memory s) c.args.table c.args.row c.args.column (cell_value c.args.cell) (omega arith) (omega arith)
 
-pub returns-in_err-column : goal.returns-in_err-column
-returns-in_err-column c =
+pub returns-in_err-column-clause-answers : goal.returns-in_err-column-clause-answers
+returns-in_err-column-clause-answers c =
     let s = c.args.self.now in
     let found = rw c.in_ok-count.ensures.ok_part at c.get.ensures.lookup in
     let n = found.3.1 0 in
@@ -36,8 +37,8 @@ returns-in_err-column c =
     let is : p.0 ≡ NoColumn = cc in
     rw (p.1, is, amend_column (columns_in s.tables) s.rows.counts (memory s) c.args.table c.args.row c.args.column (cell_value c.args.cell) (omega arith) (omega arith) (omega arith))
 
-pub returns-then-ne : goal.returns-then-ne
-returns-then-ne c =
+pub returns-then-ne-clause-answers : goal.returns-then-ne-clause-answers
+returns-then-ne-clause-answers c =
     let s = c.args.self.now in
     let found = rw c.in_ok-count.ensures.ok_part at c.get.ensures.lookup in
     let n = found.3.1 0 in
@@ -46,8 +47,16 @@ returns-then-ne c =
     amend_kind (columns_in s.tables) s.rows.counts (memory s) c.args.table c.args.row c.args.column (cell_value c.args.cell) (omega arith) false (omega arith) (omega arith)
     (same_ne _ _ true c.if-ne.ensures ∙ ap (same_kind _) c.kind.ensures ∙ ap (λ x. same_kind x.kind (kind_of (cell_value c.args.cell))) (column.3.1 none ∙ ap (λ xs. get_or xs c.args.column none) c.columns-columns.ensures))
 
-pub returns : goal.returns
-returns c =
+pub invariant_of-result : goal.invariant_of-result
+invariant_of-result c =
+    let s = c.args.self.now in
+    let found = rw c.in_ok-count.ensures.ok_part at c.get.ensures.lookup in
+    let n = found.3.1 0 in
+    let w = within (columns_in s.tables) s.rows.counts (memory s) c.args.table (omega arith) s.fitting in
+    record { four = omega arith; low = omega arith }
+
+pub returns-clause-answers : goal.returns-clause-answers
+returns-clause-answers c =
     let s = c.args.self.now in
     let found = rw c.in_ok-count.ensures.ok_part at c.get.ensures.lookup in
     let n = found.3.1 0 in

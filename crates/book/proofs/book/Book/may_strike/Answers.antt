@@ -1,18 +1,27 @@
 use Rattle.std.proofs.Common.{arith}
 use Rattle.book.specs.Books.{memory}
 use Rattle.book.specs.Columns.{columns_in}
+use Rattle.book.proofs.Memory.{within}
 use Rattle.book.proofs.Striking.{strike_not, strike_may}
 use Rattle.book.proofs.book.Book.may_strike.Goals as goal
 
-pub returns-then-row-count : goal.returns-then-row-count
-returns-then-row-count c =
+pub returns-then-row-count-clause-answers : goal.returns-then-row-count-clause-answers
+returns-then-row-count-clause-answers c =
     let s = c.args.self.now in
     let found = rw c.in_ok-count.ensures.ok_part at c.get.ensures.lookup in
     let n = found.3.1 0 in
     strike_not (columns_in s.tables) s.rows.counts (memory s) c.args.table c.args.row (omega arith) (omega arith)
 
-pub returns : goal.returns
-returns c =
+pub invariant_of-result : goal.invariant_of-result
+invariant_of-result c =
+    let s = c.args.self.now in
+    let found = rw c.in_ok-count.ensures.ok_part at c.get.ensures.lookup in
+    let n = found.3.1 0 in
+    let w = within (columns_in s.tables) s.rows.counts (memory s) c.args.table (omega arith) s.fitting in
+    record { four = omega arith; low = omega arith }
+
+pub returns-clause-answers : goal.returns-clause-answers
+returns-clause-answers c =
     let s = c.args.self.now in
     let found = rw c.in_ok-count.ensures.ok_part at c.get.ensures.lookup in
     let n = found.3.1 0 in
