@@ -6,9 +6,10 @@ use anyhow::Context;
 use book::Book;
 use cells::Cell;
 use policy::Policy;
-use query::{Plan, check};
+use query::{Plan, check, first_record};
 use std::alloc::{AllocError, Global};
 use std::time::Instant;
+use tariffs::{counts, written};
 use view::{Masked, View};
 use workspace::clear;
 use writing::Query;
@@ -27,7 +28,7 @@ impl Lent {
     /// A workspace and a reply buffer.
     pub(crate) fn new(heap: Global) -> Result<Lent, AllocError> {
         Ok(Lent {
-            work: vec![in heap; Masked::Value(Cell::Number(0)); 122_880]?,
+            work: vec![in heap; Masked::ZERO; 122_880]?,
             reply: vec![in heap; 0; 43_016]?,
         })
     }
@@ -37,26 +38,15 @@ impl Lent {
         let work = self.work.as_mut_slice();
         let reply = self.reply.as_mut_slice();
         let size = answer(view, plan, query, work, reply).context("a query was refused")?;
-        Ok(self.reply.as_slice().get(..size).unwrap_or(&[]))
+        Ok(written(self.reply.as_slice(), size))
     }
-}
-
-/// The counts of certain and of possible rows at the start of a reply.
-// In `tour` the counts are one record of many: of this pattern only the two conversions are the same there.
-fn counts(reply: &[u8]) -> Option<(u16, u16)> {
-    let [_, _, _, _, c0, c1, p0, p1, ..] = reply else {
-        return None;
-    };
-    let certain = u16::from_le_bytes([*c0, *c1]);
-    let possible = u16::from_le_bytes([*p0, *p1]);
-    Some((certain, possible))
 }
 
 /// The times of many rounds of a step.
 fn timed<F: FnMut() -> anyhow::Result<()>>(rt: &HostRuntime, mut step: F) -> anyhow::Result<Times>
     requires { F.IsAlwaysCallable step }
 {
-    let mut times = Times::none();
+    let mut times = Times::default();
     for _ in 0..ROUNDS {
         let start = Instant::now(rt)?;
         step()?;
@@ -121,7 +111,8 @@ impl Bench<'_, '_> {
         let mut view = View::new();
         view.draw(self.book, policy, 7);
         let reply = self.lent.answer(&view, &plan, bytes)?;
-        let (certain, possible) = counts(reply).context("a reply is too short")?;
+        let first = first_record(reply).context("a reply without records")?;
+        let (certain, possible) = counts(first.body).context("a reply without counts")?;
         print!(rt; "{name:<24} {certain:>9} {possible:>9}")?;
         if self.mode == Mode::Times {
             let drawn = draw_times(rt, self.book, policy, &mut view)?.least();

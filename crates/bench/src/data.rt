@@ -88,7 +88,7 @@ fn store_prefixes(
     first: u32,
     last: u32,
 ) -> anyhow::Result<()> {
-    let mut row = [Cell::Number(0); 8];
+    let mut row = [Cell::ZERO; 8];
     for (cell, step) in row.iter_mut().zip([0, 1, 2, 3, 4, 5, 6, last]) {
         *cell = Cell::Prefix(decimal(heap, first.wrapping_add(step))?);
     }
@@ -98,10 +98,10 @@ fn store_prefixes(
 
 /// Stores all rows of the second book.
 pub(crate) fn fill_prefixes(heap: Global, book: &mut Book<'_>) -> anyhow::Result<()> {
-    for (table, last) in [(0, 6), (1, 6), (2, 7), (3, 7)] {
+    for (table, last) in [(0u8, 6), (1, 6), (2, 7), (3, 7)] {
         for row in 0..256 {
-            let place = 256 * table + row;
-            store_prefixes(heap, book, table as usize, 10_000_000 + 8 * place, last)?;
+            let first = 10_000_000 + 8 * (256 * u32::from(table) + row);
+            store_prefixes(heap, book, usize::from(table), first, last)?;
         }
     }
     Ok(())

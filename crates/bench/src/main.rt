@@ -48,7 +48,7 @@ fn numbers(bench: &mut Bench<'_, '_>) -> anyhow::Result<()> {
 /// clearing the workspace.
 fn longest(rt: &HostRuntime, lent: &mut Lent) -> anyhow::Result<()> {
     let draft = data::prefixes().context("a column was refused")?;
-    let mut memory = vec![in rt.alloc(); Cell::Number(0); 8192]?;
+    let mut memory = vec![in rt.alloc(); Cell::ZERO; 8192]?;
     let mut book = draft.open(memory.as_mut_slice());
     data::fill_prefixes(rt.alloc(), &mut book)?;
     let grouped = queries::grouped(rt.alloc(), 6)?;
@@ -79,7 +79,7 @@ fn run(rt: &HostRuntime) -> anyhow::Result<()> {
     let heap = rt.alloc();
     let mode = mode(rt)?;
     let draft = data::columns().context("a column was refused")?;
-    let mut memory = vec![in heap; Cell::Number(0); 8192]?;
+    let mut memory = vec![in heap; Cell::ZERO; 8192]?;
     let mut book = draft.open(memory.as_mut_slice());
     data::fill(heap, &mut book)?;
     let mut lent = Lent::new(heap)?;

@@ -10,16 +10,18 @@ pub(crate) struct Times {
     rounds: u128,
 }
 
-impl Times {
-    /// No rounds.
-    pub(crate) fn none() -> Times {
+/// No rounds.
+impl Default for Times {
+    fn default() -> Times {
         Times {
             least: u128::MAX,
             sum: 0,
             rounds: 0,
         }
     }
+}
 
+impl Times {
     /// Adds a round that took so long.
     pub(crate) fn add(&mut self, took: Duration) {
         let nanos = took.as_nanos();

@@ -34,7 +34,7 @@ fn report(rt: &HostRuntime, name: &str, query: &[u8], book: &Book<'_>) -> anyhow
 
 fn run(rt: &HostRuntime) -> anyhow::Result<()> {
     let draft = columns().context("a column was refused")?;
-    let mut memory = [Cell::Number(0); 32];
+    let mut memory = [Cell::ZERO; 32];
     let book = draft.open(&mut memory);
     for line in rt.lines(rt.alloc()) {
         let line = line?;

@@ -8,7 +8,7 @@ use cells::Cell;
 use query::{Term, check};
 use semantics::{Operator, Refusal};
 use std::alloc::Global;
-use tariffs::{filters, store, tariff_columns};
+use tariffs::{filters, store, tariff_columns, written};
 use view::{Masked, View};
 use writing::{Query, WriteError};
 
@@ -73,7 +73,7 @@ fn answered<'r>(
 ) -> Result<&'r [u8], Refusal> {
     let plan = check(query, book)?;
     let size = answer(view, &plan, query, work, reply)?;
-    Ok(reply.get(..size).unwrap_or(&[]))
+    Ok(written(reply, size))
 }
 
 /// Who asks: a broker with the view that was drawn for it.
@@ -89,7 +89,7 @@ impl Asking<'_, '_> {
     /// columns, or the refusal.
     fn ask(&self, cells: usize, query: &Query, names: &str) -> anyhow::Result<()> {
         let rt = self.rt;
-        let mut work = vec![in rt.alloc(); Masked::Value(Cell::Number(0)); cells]?;
+        let mut work = vec![in rt.alloc(); Masked::ZERO; cells]?;
         let mut reply = [0; 4096];
         match answered(
             self.book,
@@ -136,7 +136,7 @@ impl Asking<'_, '_> {
 /// The queries, over a book that holds the three tariffs.
 pub(crate) fn tariffs(rt: &HostRuntime) -> anyhow::Result<()> {
     let filters = filters();
-    let mut memory = [Cell::Number(0); 96];
+    let mut memory = [Cell::ZERO; 96];
     let mut book = tariff_columns().open(&mut memory);
     fill(&mut book).context("a tariff was refused")?;
     println!(rt;

@@ -1,10 +1,10 @@
 //! Replies as a person reads them.
 
-use crate::read::{Record, Records, Row};
-use anyhow::{Context, bail};
+use crate::read::{Record, Records, Row, Standing};
+use anyhow::{bail, ensure};
 
 /// A row of a reply as a line of the table, after the word for how it stands in the answer.
-fn line(rt: &HostRuntime, standing: &str, row: Row<'_>) -> anyhow::Result<()> {
+fn line(rt: &HostRuntime, standing: Standing, row: Row<'_>) -> anyhow::Result<()> {
     print!(rt; "  {standing:<8}")?;
     for cell in row {
         print!(rt; "  {cell:>8}")?;
@@ -21,10 +21,14 @@ pub(crate) fn reply(rt: &HostRuntime, names: &str, bytes: &[u8]) -> anyhow::Resu
     };
     println!(rt; "  {certain} certain, {possible} possible")?;
     println!(rt; "          {names}")?;
-    for _ in 0..u32::from(certain) + u32::from(possible) {
-        match records.next().context("the reply is cut short")? {
-            Record::Certain(row) => line(rt, "certain", row)?,
-            Record::Possible(row) => line(rt, "possible", row)?,
+    let count = usize::from(certain) + usize::from(possible);
+    ensure!(
+        records.count() == count,
+        "the reply does not have the rows that it counts"
+    );
+    for record in records {
+        match record {
+            Record::Row(standing, row) => line(rt, standing, row)?,
             Record::Counts(..) => bail!("the reply counts its rows twice"),
         }
     }

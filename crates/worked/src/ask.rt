@@ -27,7 +27,7 @@ fn litter(place: usize) -> Masked {
 
 /// What stands in a byte of the reply buffer beforehand.
 fn pattern(place: usize) -> u8 {
-    (place % 251) as u8
+    u8::try_from(place % 251).unwrap()
 }
 
 /// What is lent to an answer.
@@ -50,9 +50,7 @@ impl Lent<'_> {
 
     /// Whether every cell is the number 0.
     pub(crate) fn all_zero(&self) -> bool {
-        self.work
-            .iter()
-            .all(|cell| *cell == Masked::Value(Cell::Number(0)))
+        self.work.iter().all(|cell| *cell == Masked::ZERO)
     }
 
     /// Whether the bytes from a place on are as they were filled.
@@ -72,16 +70,9 @@ impl Lent<'_> {
         broker: u16,
         query: &[u8],
     ) -> Result<usize, Refusal> {
-        match check(query, book) {
-            Err(refusal) => {
-                clear(self.work);
-                Err(refusal)
-            }
-            Ok(plan) => {
-                let mut view = View::new();
-                view.draw(book, policy, broker);
-                answer(&view, &plan, query, self.work, self.reply)
-            }
-        }
+        let plan = check(query, book).inspect_err(|_| clear(self.work))?;
+        let mut view = View::new();
+        view.draw(book, policy, broker);
+        answer(&view, &plan, query, self.work, self.reply)
     }
 }

@@ -49,10 +49,10 @@ fn lines(desk: &mut Desk<'_>, short: &Book<'_>, tall: &Book<'_>) -> anyhow::Resu
 
 /// Fills both books and goes through the lines.
 fn run(rt: &HostRuntime) -> anyhow::Result<()> {
-    let mut cells = [Cell::Number(0); 256];
+    let mut cells = [Cell::ZERO; 256];
     let mut short = columns()?.open(&mut cells);
     stock::short(&mut short).context("a row was refused")?;
-    let mut more = [Cell::Number(0); 8192];
+    let mut more = [Cell::ZERO; 8192];
     let mut tall = columns()?.open(&mut more);
     stock::tall(&mut tall).context("a row was refused")?;
     let policy = marks::policy().context("a rule or a consent was refused")?;

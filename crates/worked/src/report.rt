@@ -2,13 +2,14 @@
 
 use crate::ask::Lent;
 use crate::marks::Brokers;
-use anyhow::{Context, anyhow};
+use anyhow::{Context, bail};
 use book::Book;
 use cells::Cell;
 use reply::refusal_record;
 use std::alloc::{AllocError, Global};
 use std::fmt;
-use tariffs::from_hex;
+use std::str::{FromStr, SplitWhitespace};
+use tariffs::{from_hex, written};
 use view::Masked;
 
 /// The book that a line names.
@@ -18,6 +19,18 @@ pub(crate) enum Stock {
     Short,
     /// Up to 256 rows in a table.
     Tall,
+}
+
+impl FromStr for Stock {
+    type Err = anyhow::Error;
+
+    fn from_str(text: &str) -> anyhow::Result<Stock> {
+        match text {
+            "short" => Ok(Stock::Short),
+            "tall" => Ok(Stock::Tall),
+            _ => bail!("a line with no such book"),
+        }
+    }
 }
 
 /// What a line asks: a book, a broker, how much of the memory is lent, and a query.
@@ -31,29 +44,21 @@ pub(crate) struct Asked {
     query: Vec<u8>,
 }
 
+/// The next word of a line, which has to be there.
+fn word<'t>(words: &mut SplitWhitespace<'t>) -> anyhow::Result<&'t str> {
+    words.next().context("a line with too few words")
+}
+
 impl Asked {
     /// Reads the words of a line. A query without bytes has no digits.
     pub(crate) fn read(heap: Global, text: &str) -> anyhow::Result<Asked> {
         let mut words = text.split_whitespace();
-        let (Some(book), Some(broker), Some(cells), Some(bytes)) = (
-            words.next(),
-            words.next(),
-            words.next(),
-            words.next(),
-        ) else {
-            return Err(anyhow!("a line with too few words"));
-        };
-        let query = from_hex(heap, words.next().unwrap_or(""))?;
         Ok(Asked {
-            stock: if book == "tall" {
-                Stock::Tall
-            } else {
-                Stock::Short
-            },
-            broker: broker.parse::<u16>()?,
-            cells: cells.parse::<usize>()?,
-            bytes: bytes.parse::<usize>()?,
-            query,
+            stock: word(&mut words)?.parse()?,
+            broker: word(&mut words)?.parse()?,
+            cells: word(&mut words)?.parse()?,
+            bytes: word(&mut words)?.parse()?,
+            query: from_hex(heap, words.next().unwrap_or(""))?,
         })
     }
 }
@@ -96,7 +101,7 @@ impl<'a> Desk<'a> {
         Ok(Desk {
             rt,
             policy,
-            work: vec![in rt.alloc(); Masked::Value(Cell::Number(0)); 131072]?,
+            work: vec![in rt.alloc(); Masked::ZERO; 131072]?,
             reply: vec![in rt.alloc(); 0; 65536]?,
         })
     }
@@ -117,8 +122,7 @@ impl<'a> Desk<'a> {
         match outcome {
             Ok(size) => {
                 let kept = lent.kept_from(size);
-                let bytes = lent.reply.get(..size).unwrap_or(&[]);
-                show(rt, name, bytes, Left { clear, kept })
+                show(rt, name, written(lent.reply, size), Left { clear, kept })
             }
             Err(refusal) => {
                 let kept = lent.kept_from(0);

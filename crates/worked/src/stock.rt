@@ -26,13 +26,14 @@ fn offer(
 ) -> Result<(), Refusal> {
     let from = Prefix::from_bytes(from)?;
     let to = Prefix::from_bytes(to)?;
+    let [first, second, third] = numbers;
     let row = [
         Cell::Number(customer),
         Cell::Prefix(from),
         Cell::Prefix(to),
-        Cell::Number(numbers[0]),
-        Cell::Number(numbers[1]),
-        Cell::Number(numbers[2]),
+        Cell::Number(first),
+        Cell::Number(second),
+        Cell::Number(third),
     ];
     book.store(3, &row)
 }
