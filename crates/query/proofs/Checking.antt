@@ -1,7 +1,7 @@
 -- The loop of the check over the records of a query.
-use Rattle.std.proofs.Common.{◌≡◌, ℕ, suc, ◌+◌, ◌-◌, ◌<◌, ◌≤◌, Bool, true, false, ◌&&◌, ltb, leb, ◌⊎◌, List, [], ◌∷◌, map, length, get_or, take, drop, Some, None, Option, Result, sym, refl, ap, ◌∙◌, subst, inl, inr, ⊎_elim, arith, Bor}
+use Rattle.std.proofs.Common.{◌≡◌, ℕ, suc, ◌+◌, ◌-◌, ◌<◌, ◌≤◌, Bool, true, false, ◌&&◌, eqb, ltb, leb, List, [], ◌∷◌, map, length, get_or, take, drop, Some, None, Option, Result, sym, refl, ap, ◌∙◌, subst, ⊎_elim, arith}
 use Rattle.std.proofs.lemmas.List.{drop-drop, length-drop, length-take, drop_all, get_or-map}
-use Rattle.std.proofs.lemmas.Bool.{and_from, and_left, and_right, le-leb, lt-leb, lt-ltb, le-ltb, leb-true}
+use Rattle.std.proofs.lemmas.Bool.{eqb-true, lt-ltb, le-ltb, leb-true}
 use Rattle.semantics.specs.declared.kind.Column.{Column}
 use Rattle.semantics.specs.declared.refusal.Refusal.{Refusal}
 use Rattle.semantics.specs.declared.refusal.Refusal.TheVariants.{QueryLength, TooManyRecords, BrokenRecord, UnknownRecord, WrongForm, NotOneRelation}
@@ -25,8 +25,6 @@ use Rattle.query.proofs.Widths.{got_none}
 use Rattle.std.specs.List.{slice_get}
 use Rattle.std.proofs.lemmas.Option.{slice_get_within, get_or_from_slice_get}
 use Rattle.query.proofs.Firsts.{first-less}
-use Rattle.semantics.specs.Conditions.{Condition}
-use Rattle.semantics.specs.Reading.{condition_form}
 use Rattle.semantics.specs.Bytes.{cut, from_two}
 use Rattle.semantics.proofs.Outcomes.{cond_ways}
 
@@ -62,21 +60,21 @@ module _ (columns : List (List Column)) where
   walk_end m n stack (b ∷ bs) h = absurd (omega arith)
 
   -- the length of the query
-  pub long-enough : (bs : List ℕ) → 1 ≤ length bs → length bs ≤ 1024 → questions columns bs ≡ walk query_faults (record_step columns) 15 0 [] bs
+  pub long-enough : (bs : List ℕ) → (leb 1 (length bs) && leb (length bs) 1024) ≡ true → questions columns bs ≡ walk query_faults (record_step columns) 15 0 [] bs
   unfolding questions
-  long-enough bs l h =
-      let t : (leb 1 (length bs) && leb (length bs) 1024) ≡ true = and_from _ _ (le-leb _ _ l) (le-leb _ _ h) in
-      ap (λ b. question b QueryLength (walk query_faults (record_step columns) 15 0 [] bs)) t
+  long-enough bs t = ap (λ b. question b QueryLength (walk query_faults (record_step columns) 15 0 [] bs)) t
 
-  pub wrong_length : (bs : List ℕ) → (length bs ≡ 0) ⊎ (1024 < length bs) → questions columns bs ≡ refuse QueryLength
+  pub wrong_length : (bs : List ℕ) → (leb 1 (length bs) && leb (length bs) 1024) ≡ false → questions columns bs ≡ refuse QueryLength
   unfolding questions
-  wrong_length bs (inl z) =
-      let l : length bs < 1 = omega arith in
-      let t : (leb 1 (length bs) && leb (length bs) 1024) ≡ false = and_left _ _ (lt-leb 1 (length bs) l) in
-      ap (λ b. question b QueryLength (walk query_faults (record_step columns) 15 0 [] bs)) t
-  wrong_length bs (inr z) =
-      let t : (leb 1 (length bs) && leb (length bs) 1024) ≡ false = and_right _ _ (lt-leb _ _ z) in
-      ap (λ b. question b QueryLength (walk query_faults (record_step columns) 15 0 [] bs)) t
+  wrong_length bs t = ap (λ b. question b QueryLength (walk query_faults (record_step columns) 15 0 [] bs)) t
+
+-- whether bytes are left
+pub some_left : (bs : List ℕ) → false ≡ eqb (length bs) 0 → 0 < length bs
+some_left [] h = let z : ◌≡◌ {A = ℕ} 0 1 = cc in absurd (omega arith)
+some_left (b ∷ bs) h = omega arith
+
+pub none_left : (bs : List ℕ) → true ≡ eqb (length bs) 0 → length bs ≤ 0
+none_left bs h = omega (arith, eqb-true (length bs) 0 (sym h))
 
 -- what is read is short, and what is left is shorter
 pub short-said : (n : ℕ) (r : Record) (s : records.Record) → Says n r s → Short r
@@ -163,30 +161,8 @@ module _ (columns : List (List Column)) (n : ℕ) (stack : List Tree) (rest : Li
 
 -- a record by its case
 module _ (columns : List (List Column)) (n : ℕ) (stack : List Tree) (said : Record) (says : records.Record) (r : Result Step Refusal) (h : Says n said says) where
-  pub by-select : (body : Bor (List ℕ)) → said ≡ Select body → ((c : Condition) → condition_form (WrongForm n) body.now ≡ done c → StepIs columns stack (records.select_record c) r (asked columns n stack (records.select_record c))) → StepIs columns stack says r (asked columns n stack says)
-  by-select body is f =
-      let k : Says n (Select body) says = subst (λ (s : Record). Says n s says) is h in
-      subst (λ (s : records.Record). StepIs columns stack s r (asked columns n stack s)) (sym k.2) (f k.0 k.1)
-
-  pub by-project : (cs : Bor (List ℕ)) → said ≡ Project cs → StepIs columns stack (records.project_record cs.now) r (asked columns n stack (records.project_record cs.now)) → StepIs columns stack says r (asked columns n stack says)
-  by-project cs is f =
-      let k : Says n (Project cs) says = subst (λ (s : Record). Says n s says) is h in
-      subst (λ (s : records.Record). StepIs columns stack s r (asked columns n stack s)) (sym k.0) f
-
-  pub by_product : said ≡ Product → StepIs columns stack records.product_record r (asked columns n stack records.product_record) → StepIs columns stack says r (asked columns n stack says)
-  by_product is f =
-      let k : Says n Product says = subst (λ (s : Record). Says n s says) is h in
-      subst (λ (s : records.Record). StepIs columns stack s r (asked columns n stack s)) (sym k) f
-
-  pub by-union : said ≡ Union → StepIs columns stack records.union_record r (asked columns n stack records.union_record) → StepIs columns stack says r (asked columns n stack says)
-  by-union is f =
-      let k : Says n Union says = subst (λ (s : Record). Says n s says) is h in
-      subst (λ (s : records.Record). StepIs columns stack s r (asked columns n stack s)) (sym k) f
-
-  pub by_difference : said ≡ Difference → StepIs columns stack records.difference_record r (asked columns n stack records.difference_record) → StepIs columns stack says r (asked columns n stack says)
-  by_difference is f =
-      let k : Says n Difference says = subst (λ (s : Record). Says n s says) is h in
-      subst (λ (s : records.Record). StepIs columns stack s r (asked columns n stack s)) (sym k) f
+  pub by_case : (case : Record) → said ≡ case → ((s : records.Record) → Says n case s → StepIs columns stack s r (asked columns n stack s)) → StepIs columns stack says r (asked columns n stack says)
+  by_case case is f = f says (subst (λ (s : Record). Says n s says) is h)
 
 pub few-records : (plan : Plan) → record_count plan ≤ 15
 few-records plan = omega (arith, length-take plan.records.count plan.records.places, plan.records.within)

@@ -1,27 +1,32 @@
 -- How many conditions a term leaves on the stack.
-use Rattle.std.proofs.Common.{◌≡◌, ℕ, ◌+◌, ◌-◌, ◌≤◌, ◌⊎◌, List, [], ◌∷◌, length, Some, refl, inl, inr, arith}
+use Rattle.std.proofs.Common.{◌≡◌, ℕ, ◌+◌, ◌<◌, List, [], ◌∷◌, length, Some, refl, arith}
 use Rattle.semantics.specs.declared.refusal.Refusal.{Refusal}
-use Rattle.semantics.specs.Conditions.{Condition, compared, conjunction, disjunction, negation, by_column, by_number, by_prefix}
+use Rattle.semantics.specs.Conditions.{Condition, compared, conjunction, disjunction, negation, Term, comparing, conjoining, disjoining, negating}
+use Rattle.semantics.specs.Outcomes.{refuse}
 use Rattle.semantics.specs.Reading.{combined}
-use Rattle.query.specs.declared.term.Term.{Term}
-use Rattle.query.specs.declared.term.Term.TheVariants.{ByColumn, ByNumber, ByPrefix, And, Or, Not}
-use Rattle.query.specs.Terms.{term_of, DepthIs}
+use Rattle.query.specs.Terms.{parts, DepthIs}
 
 module _ (e : Refusal) where
-  pub joins : (t : Term) (stack : List Condition) (d : ℕ) → (t ≡ And) ⊎ (t ≡ Or) → length stack ≡ d → 2 ≤ d → DepthIs e (Some (d - 1)) (combined e (term_of t) stack)
-  joins t [] d k l h = absurd (omega arith)
-  joins t (y ∷ []) d k l h = absurd (omega arith)
-  joins t (y ∷ (x ∷ stack)) d (inl p) l h = rw p (conjunction x y ∷ stack, refl, omega arith)
-  joins t (y ∷ (x ∷ stack)) d (inr p) l h = rw p (disjunction x y ∷ stack, refl, omega arith)
+  -- where there are enough
+  pub combines : (t : Term) (stack : List Condition) (left : ℕ) → left + parts t ≡ length stack → DepthIs e (Some (left + 1)) (combined e t stack)
+  combines (comparing k) stack left h = (compared k ∷ stack, refl, omega arith)
+  combines conjoining [] left h = absurd (omega arith)
+  combines conjoining (y ∷ []) left h = absurd (omega arith)
+  combines conjoining (y ∷ (x ∷ stack)) left h = (conjunction x y ∷ stack, refl, omega arith)
+  combines disjoining [] left h = absurd (omega arith)
+  combines disjoining (y ∷ []) left h = absurd (omega arith)
+  combines disjoining (y ∷ (x ∷ stack)) left h = (disjunction x y ∷ stack, refl, omega arith)
+  combines negating [] left h = absurd (omega arith)
+  combines negating (x ∷ stack) left h = (negation x ∷ stack, refl, omega arith)
 
-  pub negates : (t : Term) (stack : List Condition) (d : ℕ) → t ≡ Not → length stack ≡ d → 1 ≤ d → DepthIs e (Some d) (combined e (term_of t) stack)
-  negates t [] d p l h = absurd (omega arith)
-  negates t (x ∷ stack) d p l h = rw p (negation x ∷ stack, refl, l)
-
-  pub compares : (t : Term) (stack : List Condition) (d : ℕ) → (t ≡ And → ⊥) → (t ≡ Or → ⊥) → (t ≡ Not → ⊥) → length stack ≡ d → DepthIs e (Some (d + 1)) (combined e (term_of t) stack)
-  compares (ByColumn op l r) stack d a o n h = (compared (by_column op l r) ∷ stack, refl, omega arith)
-  compares (ByNumber op l m) stack d a o n h = (compared (by_number op l m) ∷ stack, refl, omega arith)
-  compares (ByPrefix op l ds) stack d a o n h = (compared (by_prefix op l ds.now) ∷ stack, refl, omega arith)
-  compares And stack d a o n h = absurd (a refl)
-  compares Or stack d a o n h = absurd (o refl)
-  compares Not stack d a o n h = absurd (n refl)
+  -- and where there are not
+  pub refuses : (t : Term) (stack : List Condition) → length stack < parts t → combined e t stack ≡ refuse e
+  refuses (comparing k) stack h = absurd (omega arith)
+  refuses conjoining [] h = refl
+  refuses conjoining (y ∷ []) h = refl
+  refuses conjoining (y ∷ (x ∷ stack)) h = absurd (omega arith)
+  refuses disjoining [] h = refl
+  refuses disjoining (y ∷ []) h = refl
+  refuses disjoining (y ∷ (x ∷ stack)) h = absurd (omega arith)
+  refuses negating [] h = refl
+  refuses negating (x ∷ stack) h = absurd (omega arith)

@@ -1,9 +1,10 @@
 -- The relations of a stack in a plan, and what each record makes of them.
-use Rattle.std.proofs.Common.{◌≡◌, ℕ, zero, suc, ◌+◌, ◌-◌, ◌<◌, ◌≤◌, Bool, true, false, eqb, leb, ◌⊎◌, List, [], ◌∷◌, ◌++◌, map, length, get_or, drop, Some, None, sym, refl, ap, ◌∙◌, subst, inl, inr, ⊎_elim, arith}
+use Rattle.std.proofs.Common.{◌≡◌, ℕ, zero, suc, ◌+◌, ◌-◌, ◌<◌, ◌≤◌, Bool, true, false, eqb, leb, ◌⊎◌, List, [], ◌∷◌, ◌++◌, map, length, get_or, drop, Some, None, Option, sym, refl, ap, ◌∙◌, subst, inl, inr, ⊎_elim, arith}
 use Rattle.std.proofs.lemmas.List.{append_assoc, length-append, length_push, get_or_push, get_or_append_left, get_or-append_right}
 use Rattle.std.proofs.lemmas.Option.{slice_get_within}
 use Rattle.std.proofs.lemmas.Bool.{le-leb, lt-leb, eq-eqb, ne_eqb}
 use Rattle.std.specs.List.{slice_get}
+use Rattle.std.specs.Option.{MatchOption}
 use Rattle.semantics.specs.declared.kind.Column.{Column}
 use Rattle.semantics.specs.declared.refusal.Refusal.TheVariants.{StackShort, NoSuchName, Unfit, ProductTooWide}
 use Rattle.semantics.specs.Conditions.{Condition, kind_at, named_comparison, fitting_comparison, every_comparison}
@@ -122,6 +123,11 @@ module _ (columns : List (List Column)) (bytes : List ℕ) (plan : Plan) where
   lone_is [] r plans h = absurd (no-record plans r h)
   lone_is (x ∷ []) r plans h = eq-eqb _ 0 (top-known x [] plans r h).1
   lone_is (x ∷ (y ∷ below)) r plans h = ne_eqb _ 0 (λ z. let t = top-known x (y ∷ below) plans r h in omega (arith, t.1, z, length-append (laid below) (nodes y), nodes-some y))
+
+  -- as the code asks it of the last record, if there is one
+  pub lone_by : (stack : List Tree) (last : Option Planned) (b : Bool) (said : Planned → Type 0) → Plans columns bytes plan (laid stack) → last ≡ slice_get (planned_in plan) (record_count plan - 1) → MatchOption last (b ≡ false) said → ((r : Planned) → said r → b ≡ eqb r.step.start 0) → b ≡ lone stack
+  lone_by stack None b said plans h m f = m ∙ lone_none stack plans h
+  lone_by stack (Some r) b said plans h m f = f r m ∙ lone_is stack r plans h
 
   -- A selection.
   module _ (c : Condition) where

@@ -113,7 +113,7 @@ Checks columns bytes (Err e) o = o ≡ refuse e
 
 -- Where the records of a plan stand, and the kinds of the columns of their relations.
 abbrev pub position_of : Planned → Position
-position_of p = record { at = p.at; left = p.step.left; start = p.step.start }
+position_of p = record { at = p.at; left = p.step.left; start = p.step.start; low = p.step.low }
 
 abbrev pub positions_in : Plan → List Position
 positions_in plan = map position_of (planned_in plan)

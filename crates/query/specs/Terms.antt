@@ -66,6 +66,13 @@ terms_in bytes = leading (length bytes) bytes
 abbrev pub terms_left : Terms → List conditions.Term
 terms_left t = terms_in t.rest.now
 
+-- How many conditions a term takes from the stack.
+abbrev pub parts : conditions.Term → ℕ
+parts (conditions.comparing k) = 0
+parts conditions.conjoining = 2
+parts conditions.disjoining = 2
+parts conditions.negating = 1
+
 -- How many conditions are on the stack after a term, or that it is refused with `e`.
 abbrev pub DepthIs : Refusal → Option ℕ → Outcome (List Condition) → Type 0
 DepthIs e (Some d) o = (next : List Condition) × (o ≡ done next) × (length next ≡ d)

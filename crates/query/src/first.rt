@@ -3,7 +3,7 @@ ghost use Rattle.semantics.specs.Bytes.{first_record};
 ghost use Rattle.query.specs.Firsts.{FirstIs};
 
 /// The first record of some bytes: its kind, its body, and the bytes after it.
-#[derive(Clone, Copy)]
+#[derive(Clone, Copy, PartialEq, Eq, Debug)]
 pub struct First<'q> {
     pub kind: u16,
     pub body: &'q [u8],

@@ -12,29 +12,13 @@ ghost use Rattle.query.specs.Plans.{planned_in, record_count, Plans, laid, asked
 ghost use Rattle.query.specs.Saying.{first_said, Says, Short};
 
 use crate::kinds::Kinds;
-use crate::plan::{Plan, Planned};
+use crate::plan::{Plan, Planned, place_of};
 use crate::record::Record;
 use crate::step::{Sides, Step};
 use crate::terms::Terms;
 use book::Book;
 use bounded::Bounded;
 use semantics::Refusal;
-
-/// A table as record number `number`.
-fn table(table: u8, number: usize, book: &Book) -> Result<Step, Refusal>
-    requires { number < 15 }
-    ensures { (stack : List Tree) → length (laid stack) ≡ number → StepIs (book_model book.now).columns stack (table_record table) result (asked (book_model book.now).columns number stack (table_record table)) }
-{
-    let columns = book.columns(usize::from(table));
-    if columns.is_empty() {
-        return Err(Refusal::NoSuchName(number as u8));
-    }
-    Ok(Step {
-        left: 0,
-        start: number,
-        kinds: Kinds::of_columns(columns),
-    })
-}
 
 impl Plan {
     /// What the plan keeps of a record, if there is one of this number.
@@ -55,7 +39,7 @@ impl Plan {
     pub(crate) fn place(&self) -> u8
         ensures { result ≡ record_count self.now }
     {
-        self.records.len() as u8
+        place_of(self.records.len())
     }
 
     /// The last two relations, if there are two.
@@ -69,6 +53,22 @@ impl Plan {
             number,
             left: left.step,
             right: right.step,
+        })
+    }
+
+    /// A table.
+    fn table(&self, table: u8, book: &Book) -> Result<Step, Refusal>
+        requires { record_count self.now < 15 }
+        ensures { Grows (book_model book.now).columns self.now (table_record table) result }
+    {
+        let columns = book.columns(usize::from(table));
+        if columns.is_empty() {
+            return Err(Refusal::NoSuchName(self.place()));
+        }
+        Ok(Step {
+            left: 0,
+            start: self.records.len(),
+            kinds: Kinds::of_columns(columns),
         })
     }
 
@@ -146,7 +146,7 @@ impl Plan {
         ensures { (says : records.Record) → Says (record_count self.now) said.entry says → Grows (book_model book.now).columns self.now says result }
     {
         match said {
-            Record::Table(number) => table(number, self.records.len(), book),
+            Record::Table(number) => self.table(number, book),
             Record::Select(body) => self.select(body),
             Record::Project(listed) => self.project(listed),
             Record::Product => self.product(),
@@ -158,10 +158,7 @@ impl Plan {
     pub(crate) fn is_single(&self) -> bool
         ensures { (columns : List (List Column)) → OnStack columns self.now (λ stack. result ≡ lone stack) }
     {
-        let Some(last) = self.last() else {
-            return false;
-        };
-        last.step.start == 0
+        self.last().is_some_and(|last| last.step.start == 0)
     }
 
     /// A plan without records.
@@ -184,6 +181,6 @@ impl Plan {
         ensures count { record_count self.new ≡ record_count self.old + 1 }
         ensures plans { (columns : List (List Column)) (bytes : List ℕ) (stack : List Tree) (says : records.Record) (rest : List ℕ) (o : Outcome (List Tree)) → Plans columns bytes self.old (laid stack) → (grew : Grew columns stack step says o) → first_said (record_count self.old) (drop at bytes) ≡ done (record { says = says; rest = rest }) → Plans columns bytes self.new (laid (grew.top ∷ grew.below)) }
     {
-        let _ = self.records.push(Planned { at, step });
+        self.records.push(Planned { at, step }).unwrap();
     }
 }

@@ -1,3 +1,5 @@
+ghost use Rattle.std.specs.Prelude.{◌≡◌, ◌<◌, ◌≤◌};
+
 use crate::step::Step;
 use bounded::Bounded;
 
@@ -9,6 +11,7 @@ pub struct Position {
     pub at: usize,
     pub left: usize,
     pub start: usize,
+    ghost low: { start < 15 },
 }
 
 /// What a plan keeps of a record: the byte that it begins at, and what it adds to the plan.
@@ -22,4 +25,13 @@ pub(crate) struct Planned {
 #[derive(Clone, Copy)]
 pub struct Plan {
     pub(crate) records: Bounded<Planned, 15>,
+}
+
+/// A record's number, or their count, as the place of a refusal.
+pub(crate) fn place_of(number: usize) -> u8
+    requires { number ≤ 15 }
+    ensures { result ≡ number }
+{
+    // As a cast, which keeps a number of at most 15.
+    number as u8
 }

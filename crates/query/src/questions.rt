@@ -4,7 +4,7 @@ ghost use Rattle.book.specs.Books.{book_model};
 ghost use Rattle.query.specs.Plans.{record_count, positions_in, known_kinds, Checks, record_at, SaidIs};
 
 use crate::kinds::Kinds;
-use crate::plan::{Plan, Planned, Position};
+use crate::plan::{Plan, Planned, Position, place_of};
 use crate::reader::Reader;
 use crate::record::Record;
 use book::Book;
@@ -12,18 +12,19 @@ use semantics::Refusal;
 
 /// Puts the questions to a query over the tables of a book, and answers its plan. Exactly the
 /// well-formed queries pass, and the bytes of each are read in one way only.
+#[tactic(auto, using(semantics::proofs::Trees::reads_one_way))]
 pub fn check(query: &[u8], book: &Book) -> Result<Plan, Refusal>
     ensures plan { Checks (book_model book.now).columns query.now result (questions (book_model book.now).columns query.now) }
     ensures exact { ReadsExactly }
     ensures certain { ReadsOneWay }
 {
-    if query.len() == 0 || query.len() > 1024 {
+    if !(1..=1024).contains(&query.len()) {
         return Err(Refusal::QueryLength);
     }
     let mut plan = Plan::empty();
-    // An iterator of records would have to carry the plan's count for their places: `rest` says it all.
+    // No iterator of records: it would count places and bytes beside the plan and what is left, which have them.
     let mut rest = query;
-    while rest.len() > 0 {
+    while !rest.is_empty() {
         let place = plan.place();
         if plan.count() == 15 {
             return Err(Refusal::TooManyRecords(place));
@@ -74,7 +75,7 @@ impl Plan {
     {
         let planned = self.planned(number)?;
         let rest = query.get(planned.at..)?;
-        let place = number as u8;
+        let place = place_of(number);
         let (said, _) = Reader { rest, place }.read().ok()?;
         Some(said)
     }

@@ -1,6 +1,6 @@
 /// What a record of a query says. The conditions of a select and the columns of a project stay
 /// parts of the query.
-#[derive(Clone, Copy)]
+#[derive(Clone, Copy, PartialEq, Eq, Debug)]
 pub enum Record<'q> {
     Table(u8),
     Select(&'q [u8]),

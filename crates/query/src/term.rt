@@ -5,7 +5,7 @@ ghost use Rattle.semantics.specs.Kinds.{same_kind};
 ghost use Rattle.semantics.specs.Operators.{takes};
 ghost use Rattle.semantics.specs.Reading.{empty_form, column_side, number_side, prefix_side, comparison_form, term_form, combined};
 ghost use Rattle.query.specs.Kinds.{kinds_in};
-ghost use Rattle.query.specs.Terms.{passes, term_of, TermIs, first_term, FirstTermIs, DepthIs};
+ghost use Rattle.query.specs.Terms.{passes, term_of, TermIs, first_term, FirstTermIs, parts, DepthIs};
 
 use crate::first::{First, first_record};
 use crate::kind::TermKind;
@@ -16,7 +16,7 @@ use semantics::{Kind, Operator};
 /// What a condition record says: a comparison of a column with another, with a number or with the
 /// digits of a prefix, which stay a part of the query, or how conditions are joined.
 // One case a kind of record: a struct of operator and left column would be taken apart in each match.
-#[derive(Clone, Copy)]
+#[derive(Clone, Copy, PartialEq, Eq, Debug)]
 pub enum Term<'q> {
     ByColumn(Operator, u8, u8),
     ByNumber(Operator, u8, u32),
@@ -148,17 +148,23 @@ impl Term<'_> {
         }
     }
 
+    /// How many conditions the term takes from the stack.
+    fn parts(self) -> usize
+        ensures { result ≡ parts (term_of self.entry) }
+    {
+        match self {
+            Term::And | Term::Or => 2,
+            Term::Not => 1,
+            _ => 0,
+        }
+    }
+
     /// How many conditions are on the stack after the term, if there are enough before it.
-    #[tactic(auto, using(crate::proofs::Depths::joins, crate::proofs::Depths::negates, crate::proofs::Depths::compares))]
+    #[tactic(auto, using(crate::proofs::Depths::combines, crate::proofs::Depths::refuses))]
     pub(crate) fn depth_after(self, depth: usize) -> Option<usize>
         requires { depth < 1000 }
         ensures { (e : Refusal) (stack : List Condition) → length stack ≡ depth → DepthIs e result (combined e (term_of self.entry) stack) }
     {
-        // By `if`: two are taken and one is put back, which `checked_sub` says no plainer.
-        match self {
-            Term::And | Term::Or => { if depth < 2 { None } else { Some(depth - 1) } }
-            Term::Not => { if depth < 1 { None } else { Some(depth) } }
-            _ => Some(depth + 1),
-        }
+        Some(depth.checked_sub(self.parts())? + 1)
     }
 }

@@ -325,11 +325,11 @@ module _ (columns : List (List Column)) where
       let w : Walked query_faults (record_step columns) encode size good 15 [] bytes q = walk-back query_faults (record_step columns) encode size good steps 15 0 [] bytes q bs refl a.1 in
       (w.wrote, w.fine, omega (arith, w.few), leb-true _ _ l.1)
 
-pub reads-exactly : ReadsExactly
-reads-exactly columns bytes q bs = (only columns bytes q bs, passes columns bytes q)
+pub reads_exactly : ReadsExactly
+reads_exactly columns bytes q bs = (only columns bytes q bs, passes columns bytes q)
 
-pub reads-one-way : ReadsOneWay
-reads-one-way columns q r g h e =
+pub reads_one_way : ReadsOneWay
+reads_one_way columns q r g h e =
     let a = reads_all query_faults (record_step columns) encode size q (size q + size r) (size r) 0 (reads-tree columns q g) refl in
     let b = reads_all query_faults (record_step columns) encode size r (size q + size r) (size q) 0 (reads-tree columns r h) (omega arith) in
     let c : walk query_faults (record_step columns) (size q + size r) 0 [] (encode q) ≡ walk query_faults (record_step columns) (size q + size r) 0 [] (encode r) = ap (λ l. walk query_faults (record_step columns) (size q + size r) 0 [] l) e in

@@ -1,94 +1,72 @@
-use Rattle.std.proofs.Common.{◌≡◌, ℕ, ◌+◌, ◌-◌, ◌<◌, List, [], ◌∷◌, length, drop, Ok, sym, ap, ◌∙◌, subst, inl, inr, ⊎_elim, arith}
+use Rattle.std.proofs.Common.{◌≡◌, ℕ, ◌+◌, ◌-◌, ◌<◌, true, false, ◌&&◌, leb, List, [], ◌∷◌, length, drop, Ok, rules, sym, ap, ◌∙◌, subst, arith}
 use Rattle.std.proofs.lemmas.Result.{err_from_is_err_and}
 use Rattle.semantics.specs.declared.refusal.Refusal.TheVariants.{NotOneRelation}
 use Rattle.semantics.specs.Outcomes.{done, refuse}
 use Rattle.semantics.specs.Queries.{Tree}
 use Rattle.semantics.specs.Reading.{record_step, query_faults}
 use Rattle.semantics.specs.Walks.{walk}
-use Rattle.semantics.proofs.Trees.{reads-exactly, reads-one-way}
+use Rattle.semantics.proofs.Trees.{reads_exactly}
 use Rattle.book.specs.Books.{book_model}
 use Rattle.query.specs.Plans.{record_count, Plans, asked, Grew}
 use Rattle.query.specs.Saying.{First, first_said, ReadAs}
 use Rattle.query.proofs.Laying.{plans_none}
-use Rattle.query.proofs.Checking.{few-records, walk-many, walk_end, long-enough, wrong_length, short-said, lone-done, lone_not, said-rest, end_of_end, went_unsaid, went-unasked, went_on}
+use Rattle.query.proofs.Checking.{few-records, walk-many, walk_end, long-enough, wrong_length, some_left, none_left, short-said, lone-done, lone_not, said-rest, end_of_end, went_unsaid, went-unasked, went_on}
 use Rattle.query.proofs.questions.check.Goals as goal
 
-pub returns-then-query-eq0 : goal.returns-then-query-eq0
-returns-then-query-eq0 c =
-    record {
-      plan = wrong_length (book_model c.args.book.now).columns c.args.query.now (⊎_elim inl (λ p. inr p.1) c.then-query-eq0.either);
-      exact = reads-exactly;
-      certain = reads-one-way;
-    }
+pub returns-then-not-contains-clause-plan : goal.returns-then-not-contains-clause-plan
+returns-then-not-contains-clause-plan c =
+    let sized : (leb 1 (length c.args.query.now) && leb (length c.args.query.now) 1024) ≡ false = search rules in
+    wrong_length (book_model c.args.book.now).columns c.args.query.now sized
 
 pub loop-rest-init : goal.loop-rest-init
 loop-rest-init c =
-    let plans = plans_none (book_model c.args.book.now).columns c.args.query.now c.empty-plan.result c.empty-plan.ensures in
+    let columns = (book_model c.args.book.now).columns in
+    let plans = plans_none columns c.args.query.now c.empty-plan.result c.empty-plan.ensures in
     let z : record_count c.empty-plan.result ≡ 0 = plans.counted in
-    let n : length c.args.query.now - length c.args.query.now ≡ 0 = omega arith in (
+    let n : length c.args.query.now - length c.args.query.now ≡ 0 = omega arith in
+    let sized : (leb 1 (length c.args.query.now) && leb (length c.args.query.now) 1024) ≡ true = search rules in (
       omega arith,
       ap (λ m. drop m c.args.query.now) n,
-      ([], plans, ap (λ m. walk query_faults (record_step (book_model c.args.book.now).columns) (15 - m) m [] c.args.query.now) z),
+      ([], plans, ap (λ m. walk query_faults (record_step columns) (15 - m) m [] c.args.query.now) z ∙ sym (long-enough columns c.args.query.now sized)),
     )
 
-pub returns-then-count-eq15 : goal.returns-then-count-eq15
-returns-then-count-eq15 c =
-    let columns = (book_model c.args.book.now).columns in
+pub returns-then-count-eq15-clause-plan : goal.returns-then-count-eq15-clause-plan
+returns-then-count-eq15-clause-plan c =
     let i = c.loop-rest.invariant.2 in
-    record {
-      plan =
-          rw c.place-place.ensures
-          (long-enough columns c.args.query.now (omega arith) (omega arith)
-          ∙ sym i.2
-          ∙ walk-many columns (15 - (record_count c.loop-rest.plan)) (record_count c.loop-rest.plan) i.0 c.loop-rest.rest.now (omega (arith, c.count.ensures.value)) c.loop-rest-test.true);
-      exact = reads-exactly;
-      certain = reads-one-way;
-    }
+    rw c.place-place.ensures
+    (sym i.2
+    ∙ walk-many (book_model c.args.book.now).columns (15 - record_count c.loop-rest.plan) (record_count c.loop-rest.plan) i.0 c.loop-rest.rest.now
+    (omega (arith, c.count.ensures.value)) (some_left c.loop-rest.rest.now c.loop-rest-test.ensures))
 
-pub returns-in_err-said : goal.returns-in_err-said
-returns-in_err-said c =
-    let columns = (book_model c.args.book.now).columns in
+pub returns-in_err-said-clause-plan : goal.returns-in_err-said-clause-plan
+returns-in_err-said-clause-plan c =
     let i = c.loop-rest.invariant.2 in
     let p = err_from_is_err_and c.from_residual.result c.from_residual.ensures.1 in
-    let few : (record_count c.loop-rest.plan) < 15 = omega (arith, few-records c.loop-rest.plan) in
-    record {
-      plan =
-          rw (p.1, p.2)
-          (long-enough columns c.args.query.now (omega arith) (omega arith)
-          ∙ sym i.2
-          ∙ went_unsaid columns (record_count c.loop-rest.plan) i.0 c.loop-rest.rest.now few c.loop-rest-test.true _ (subst (λ (m : ℕ). first_said m c.loop-rest.rest.now ≡ refuse c.in_err-said.field-0.0) c.place-place.ensures c.in_err-said.ensures));
-      exact = reads-exactly;
-      certain = reads-one-way;
-    }
+    rw (p.1, p.2)
+    (sym i.2
+    ∙ went_unsaid (book_model c.args.book.now).columns (record_count c.loop-rest.plan) i.0 c.loop-rest.rest.now (omega (arith, few-records c.loop-rest.plan)) (some_left c.loop-rest.rest.now c.loop-rest-test.ensures) _
+    (subst (λ (m : ℕ). first_said m c.loop-rest.rest.now ≡ refuse c.in_err-said.field-0.0) c.place-place.ensures c.in_err-said.ensures))
 
 pub grow-requires : goal.grow-requires
 grow-requires c =
     let f = subst (λ (m : ℕ). ReadAs m (Ok (c.in_ok-said.said, c.in_ok-said.behind)) (first_said m c.loop-rest.rest.now)) c.place-place.ensures c.in_ok-said.ensures in
     (omega (arith, few-records c.loop-rest.plan), short-said (record_count c.loop-rest.plan) c.in_ok-said.said f.0.says f.2)
 
-pub returns-in_err-step : goal.returns-in_err-step
-returns-in_err-step c =
-    let columns = (book_model c.args.book.now).columns in
+pub returns-in_err-step-clause-plan : goal.returns-in_err-step-clause-plan
+returns-in_err-step-clause-plan c =
     let i = c.loop-rest.invariant.2 in
     let f = subst (λ (m : ℕ). ReadAs m (Ok (c.in_ok-said.said, c.in_ok-said.behind)) (first_said m c.loop-rest.rest.now)) c.place-place.ensures c.in_ok-said.ensures in
     let p = err_from_is_err_and c.from_residual-in_err-step.result c.from_residual-in_err-step.ensures.1 in
-    let few : (record_count c.loop-rest.plan) < 15 = omega (arith, few-records c.loop-rest.plan) in
-    record {
-      plan =
-          rw (p.1, p.2)
-          (long-enough columns c.args.query.now (omega arith) (omega arith)
-          ∙ sym i.2
-          ∙ went-unasked columns (record_count c.loop-rest.plan) i.0 c.loop-rest.rest.now few c.loop-rest-test.true f.0 _ f.1
-          (c.in_err-step.ensures f.0.says f.2 c.args.query.now i.0 i.1));
-      exact = reads-exactly;
-      certain = reads-one-way;
-    }
+    rw (p.1, p.2)
+    (sym i.2
+    ∙ went-unasked (book_model c.args.book.now).columns (record_count c.loop-rest.plan) i.0 c.loop-rest.rest.now (omega (arith, few-records c.loop-rest.plan)) (some_left c.loop-rest.rest.now c.loop-rest-test.ensures) f.0 _ f.1
+    (c.in_err-step.ensures f.0.says f.2 c.args.query.now i.0 i.1))
 
 pub loop-rest-preserved : goal.loop-rest-preserved
 loop-rest-preserved c =
     let columns = (book_model c.args.book.now).columns in
     let q : List ℕ = c.args.query.now in
-    let n : ℕ = (record_count c.loop-rest.plan) in
+    let n : ℕ = record_count c.loop-rest.plan in
     let rest : List ℕ = c.loop-rest.rest.now in
     let v = c.loop-rest.invariant in
     let stack : List Tree = v.2.0 in
@@ -105,40 +83,46 @@ loop-rest-preserved c =
         c.push.ensures.plans columns q stack f.says f.rest (asked columns n stack f.says) v.2.1 g (ap (first_said n) v.1 ∙ said),
         ap (λ m. walk query_faults (record_step columns) (15 - m) m (g.top ∷ g.below) c.in_ok-said.behind.now) c.push.ensures.count
             ∙ ap (λ b. walk query_faults (record_step columns) (15 - (n + 1)) (n + 1) (g.top ∷ g.below) b) r.3
-            ∙ went_on columns n stack rest few c.loop-rest-test.true f (g.top ∷ g.below) said g.is
+            ∙ went_on columns n stack rest few (some_left rest c.loop-rest-test.ensures) f (g.top ∷ g.below) said g.is
             ∙ v.2.2,
       ),
     )
 
-pub returns-then-not-is_single : goal.returns-then-not-is_single
-returns-then-not-is_single c =
+pub returns-then-not-is_single-clause-plan : goal.returns-then-not-is_single-clause-plan
+returns-then-not-is_single-clause-plan c =
     let columns = (book_model c.args.book.now).columns in
     let i = c.loop-rest.invariant.2 in
-    record {
-      plan =
-          rw c.place.ensures
-          (long-enough columns c.args.query.now (omega arith) (omega arith)
-          ∙ sym i.2
-          ∙ walk_end columns (15 - (record_count c.loop-rest.plan)) (record_count c.loop-rest.plan) i.0 c.loop-rest.rest.now (omega arith)
-          ∙ lone_not (NotOneRelation (record_count c.loop-rest.plan)) i.0 (c.if-not-is_single.ensures columns c.args.query.now i.0 i.1));
-      exact = reads-exactly;
-      certain = reads-one-way;
-    }
+    rw c.place.ensures
+    (sym i.2
+    ∙ walk_end columns (15 - record_count c.loop-rest.plan) (record_count c.loop-rest.plan) i.0 c.loop-rest.rest.now (none_left c.loop-rest.rest.now c.loop-rest-test.ensures)
+    ∙ lone_not (NotOneRelation (record_count c.loop-rest.plan)) i.0 (c.if-not-is_single.ensures columns c.args.query.now i.0 i.1))
 
-pub returns : goal.returns
-returns c =
+pub returns-clause-plan : goal.returns-clause-plan
+returns-clause-plan c =
     let columns = (book_model c.args.book.now).columns in
     let i = c.loop-rest.invariant.2 in
-    let l = lone-done (NotOneRelation (record_count c.loop-rest.plan)) i.0 (c.if-not-is_single.ensures columns c.args.query.now i.0 i.1) in
-    record {
-      plan = (
-        l.0,
-        long-enough columns c.args.query.now (omega arith) (omega arith)
-            ∙ sym i.2
-            ∙ walk_end columns (15 - (record_count c.loop-rest.plan)) (record_count c.loop-rest.plan) i.0 c.loop-rest.rest.now (omega arith)
-            ∙ l.1,
-        subst (λ (qs : List Tree). Plans columns c.args.query.now c.loop-rest.plan qs) l.2 i.1,
-      );
-      exact = reads-exactly;
-      certain = reads-one-way;
-    }
+    let l = lone-done (NotOneRelation (record_count c.loop-rest.plan)) i.0 (c.if-not-is_single.ensures columns c.args.query.now i.0 i.1) in (
+      l.0,
+      sym i.2
+          ∙ walk_end columns (15 - record_count c.loop-rest.plan) (record_count c.loop-rest.plan) i.0 c.loop-rest.rest.now (none_left c.loop-rest.rest.now c.loop-rest-test.ensures)
+          ∙ l.1,
+      subst (λ (qs : List Tree). Plans columns c.args.query.now c.loop-rest.plan qs) l.2 i.1,
+    )
+
+pub returns-then-not-contains-clause-exact : goal.returns-then-not-contains-clause-exact
+returns-then-not-contains-clause-exact c = reads_exactly
+
+pub returns-then-count-eq15-clause-exact : goal.returns-then-count-eq15-clause-exact
+returns-then-count-eq15-clause-exact c = reads_exactly
+
+pub returns-in_err-said-clause-exact : goal.returns-in_err-said-clause-exact
+returns-in_err-said-clause-exact c = reads_exactly
+
+pub returns-in_err-step-clause-exact : goal.returns-in_err-step-clause-exact
+returns-in_err-step-clause-exact c = reads_exactly
+
+pub returns-then-not-is_single-clause-exact : goal.returns-then-not-is_single-clause-exact
+returns-then-not-is_single-clause-exact c = reads_exactly
+
+pub returns-clause-exact : goal.returns-clause-exact
+returns-clause-exact c = reads_exactly
