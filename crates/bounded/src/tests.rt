@@ -17,6 +17,9 @@ fn three_places(rt: HostRuntime) -> Result<(), Fail> {
     assert_eq!(rt; list.as_slice(), [6, 7, 9].as_slice());
     assert_eq!(rt; list.pop(), Some(9));
     assert_eq!(rt; list.len(), 2);
+    let mut other = Bounded::new(1);
+    other.extend(&[6, 7])?;
+    assert!(rt; list == other);
     Ok(())
 }
 

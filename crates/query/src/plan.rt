@@ -15,14 +15,14 @@ pub struct Position {
 }
 
 /// What a plan keeps of a record: the byte that it begins at, and what it adds to the plan.
-#[derive(Clone, Copy)]
+#[derive(Clone, Copy, PartialEq, Eq, Debug)]
 pub(crate) struct Planned {
     pub(crate) at: usize,
     pub(crate) step: Step,
 }
 
 /// A query that has passed the questions: its records by number, and the kinds of their columns.
-#[derive(Clone, Copy)]
+#[derive(Clone, Copy, PartialEq, Eq, Debug)]
 pub struct Plan {
     pub(crate) records: Bounded<Planned, 15>,
 }

@@ -9,7 +9,7 @@ use semantics::Refusal;
 
 /// Reads a query record by record, in place: the bytes that are left, and the number of the record
 /// that they begin with.
-#[derive(Clone, Copy)]
+#[derive(Clone, Copy, PartialEq, Eq, Debug)]
 pub(crate) struct Reader<'q> {
     pub(crate) rest: &'q [u8],
     pub(crate) place: u8,

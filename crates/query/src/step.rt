@@ -4,7 +4,7 @@ use crate::kinds::Kinds;
 
 /// What a record adds to a plan: the number of its left or only part, the number of the first
 /// record of its relation, and the kinds of the relation's columns.
-#[derive(Clone, Copy)]
+#[derive(Clone, Copy, PartialEq, Eq, Debug)]
 pub(crate) struct Step {
     pub(crate) left: usize,
     pub(crate) start: usize,
@@ -13,7 +13,7 @@ pub(crate) struct Step {
 }
 
 /// The last two relations of a plan, and the number of the left one.
-#[derive(Clone, Copy)]
+#[derive(Clone, Copy, PartialEq, Eq, Debug)]
 pub(crate) struct Sides {
     pub(crate) number: usize,
     pub(crate) left: Step,

@@ -1,4 +1,4 @@
-use Rattle.std.proofs.Common.{◌≡◌, ◌+◌, ◌-◌, ◌≤◌, ◌<◌, [], length, sym, refl, ap, ◌∙◌, arith}
+use Rattle.std.proofs.Common.{◌≡◌, ◌+◌, ◌-◌, ◌≤◌, ◌<◌, length, sym, ap, ◌∙◌, arith}
 use borrow.Author.Tests.{eqb-true, eqb-false}
 use Rattle.semantics.specs.declared.refusal.Refusal.TheVariants.{QueryLength}
 use Rattle.semantics.specs.Outcomes.{and_then}
@@ -9,9 +9,6 @@ use Rattle.query.proofs.Leading.{walk_on}
 use Rattle.query.proofs.Steps.{walk-many, walk_end, walk_stop, single-decided, combined-depth}
 use Rattle.query.proofs.condition.is_condition.Goals.{else-loop-test, then-loop-test+in_default}
 use Rattle.query.proofs.condition.is_condition.Goals as goal
-
-pub loop-init : goal.loop-init
-loop-init c = (omega arith, λ e. ([], refl, refl))
 
 pub returns-in_default-depth_after : goal.returns-in_default-depth_after
 returns-in_default-depth_after c e =
