@@ -20,27 +20,16 @@ pub(crate) fn declarations(rt: &HostRuntime) -> anyhow::Result<()> {
     let mut draft = full().context("the columns were refused")?;
     println!(rt; "Bad calls are refused, with the first fault:")?;
     // By bare numbers, as 3 is the number of no kind.
-    show::step(rt, "declare table 4: a number", draft.declare(4, 1, 0))?;
-    show::step(
-        rt,
-        "declare table 3: a ninth column",
-        draft.declare(3, 1, 0),
-    )?;
-    show::step(
-        rt,
-        "declare table 0: a column of kind 3",
-        draft.declare(0, 3, 0),
-    )?;
-    show::step(
-        rt,
-        "declare table 0: a number, in domain 16",
-        draft.declare(0, 1, 16),
-    )?;
-    show::step(
-        rt,
-        "declare table 0: a number, in domain 1",
-        draft.declare(0, 1, 1),
-    )
+    for (call, table, kind, domain) in [
+        ("declare table 4: a number", 4, 1, 0),
+        ("declare table 3: a ninth column", 3, 1, 0),
+        ("declare table 0: a column of kind 3", 0, 3, 0),
+        ("declare table 0: a number, in domain 16", 0, 1, 16),
+        ("declare table 0: a number, in domain 1", 0, 1, 1),
+    ] {
+        show::step(rt, call, draft.declare(table, kind, domain))?;
+    }
+    Ok(())
 }
 
 /// Bad calls on a book with three columns and three rows, which is full.

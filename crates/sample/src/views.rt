@@ -6,6 +6,7 @@ use book::{Book, Draft};
 use cells::Cell;
 use policy::Consents;
 use semantics::{Consent, Refusal};
+use std::array;
 use tariffs::{declare, filters, number};
 use view::View;
 
@@ -33,10 +34,8 @@ pub(crate) fn tariffs(rt: &HostRuntime, book: &Book<'_>) -> anyhow::Result<()> {
 /// Customer 501 and 502 let brokers see their offers, and which offers are one customer's, but not whose.
 fn consents() -> Result<Consents, Refusal> {
     let mut consents = Consents::new();
-    let mut shown = [false; 8];
-    let mut linked = [false; 8];
-    shown[1] = true;
-    linked[0] = true;
+    let shown = array::from_fn(|column| column == 1);
+    let linked = array::from_fn(|column| column == 0);
     for key in [501, 502] {
         consents.set(Consent { key, shown, linked })?;
     }

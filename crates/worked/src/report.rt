@@ -118,17 +118,13 @@ impl<'a> Desk<'a> {
         };
         lent.fill();
         let outcome = lent.ask(book, policy, asked.broker, asked.query.as_slice());
-        let clear = lent.all_zero();
+        let left = Left {
+            clear: lent.all_zero(),
+            kept: lent.kept_from(outcome.unwrap_or(0)),
+        };
         match outcome {
-            Ok(size) => {
-                let kept = lent.kept_from(size);
-                show(rt, name, written(lent.reply, size), Left { clear, kept })
-            }
-            Err(refusal) => {
-                let kept = lent.kept_from(0);
-                let record = refusal_record(refusal);
-                show(rt, name, &record, Left { clear, kept })
-            }
+            Ok(size) => show(rt, name, written(lent.reply, size), left),
+            Err(refusal) => show(rt, name, &refusal_record(refusal), left),
         }
     }
 }
