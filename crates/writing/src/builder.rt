@@ -52,6 +52,7 @@ impl Query {
     }
 
     /// Appends: the rows of the relation before it for which the conditions, parts first, hold.
+    #[tactic(auto, using(crate::proofs::Selecting::refused))]
     pub fn select(&mut self, conditions: &[Term<'_>]) -> Result<(), WriteError>
         ensures { Appends (record_kind_number Select) (flat_map term_bytes (map term_of conditions.now)) (query_bytes self.old) result (query_bytes self.new) }
     {
