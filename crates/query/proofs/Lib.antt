@@ -6,5 +6,6 @@ pub mod Steps
 pub mod Reading
 pub mod Widths
 pub mod Leading
+pub mod Asking
 pub mod Laying
 pub mod Checking

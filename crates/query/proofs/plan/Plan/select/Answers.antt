@@ -1,16 +1,12 @@
-use Rattle.std.proofs.Common.{◌≡◌, arith, rules, sym, refl, ◌∙◌}
+use Rattle.std.proofs.Common.{arith, rules, sym, refl, ◌∙◌}
 use borrow.Author.Tests.{tests}
-use Rattle.std.specs.List.{list_all}
-use Rattle.std.proofs.lemmas.Iterator.Consumers.{YieldsList-from_first}
-use Rattle.std.proofs.lemmas.Iterator.Search.{all_from_yields_List}
 use Rattle.std.proofs.lemmas.Result.{err_from_is_err_and}
 use Rattle.semantics.specs.declared.refusal.Refusal.TheVariants.{WrongForm}
 use Rattle.semantics.specs.Conditions.{named_comparison, fitting_comparison}
 use Rattle.query.specs.Kinds.{kinds_in}
 use Rattle.query.specs.Plans.{record_count}
-use Rattle.query.specs.Terms.{term_of, terms_in, terms_left, passes}
+use Rattle.query.proofs.Asking.{all_asked}
 use Rattle.query.proofs.Laying.{select_short, select_unnamed, select_unfit, select_grew}
-use Rattle.query.proofs.Leading.{all_terms}
 use Rattle.query.proofs.Reading.{refused-none}
 use Rattle.query.proofs.plan.Plan.select.Goals as goal
 
@@ -22,34 +18,26 @@ returns-in_err-part c columns d form bytes stack plans =
 
 pub returns-then-not-all : goal.returns-then-not-all
 returns-then-not-all c columns d form bytes stack plans =
-    let p = named_comparison (kinds_in c.in_ok-part.part.step.kinds) in
-    let named : c.all.result ≡ list_all (passes p) (terms_in c.args.body.now) =
-    all_from_yields_List (passes p) c.all.new.self _ c.all.result c.all.ensures.ran (YieldsList-from_first term_of terms_left _ c.of.ensures) (λ x b q k. search (rules, tests)) in
+    let kinds = kinds_in c.in_ok-part.part.step.kinds in
+    let e = WrongForm (record_count c.args.self.now) in
+    let named = all_asked (named_comparison kinds) c.all.new.self _ c.all.result e c.args.body.now d form c.of.ensures c.all.ensures.ran (λ x b q k. search (rules, tests)) in
     rw c.place-place.ensures
-    (select_unnamed columns bytes c.args.self.now d stack c.in_ok-part.part plans (sym c.in_ok-part.ensures.ok_part ∙ c.last.ensures)
-    (sym c.if-not-all.true ∙ named ∙ all_terms (WrongForm (record_count c.args.self.now)) p c.args.body.now d form))
+    (select_unnamed columns bytes c.args.self.now d stack c.in_ok-part.part plans (sym c.in_ok-part.ensures.ok_part ∙ c.last.ensures) (sym c.if-not-all.true ∙ named))
 
 pub returns-then-not-all-2 : goal.returns-then-not-all-2
 returns-then-not-all-2 c columns d form bytes stack plans =
-    let p = named_comparison (kinds_in c.in_ok-part.part.step.kinds) in
-    let q = fitting_comparison (kinds_in c.in_ok-part.part.step.kinds) in
-    let named : c.all.result ≡ list_all (passes p) (terms_in c.args.body.now) =
-    all_from_yields_List (passes p) c.all.new.self _ c.all.result c.all.ensures.ran (YieldsList-from_first term_of terms_left _ c.of.ensures) (λ x b q k. search (rules, tests)) in
-    let fitting : c.all-2.result ≡ list_all (passes q) (terms_in c.args.body.now) =
-    all_from_yields_List (passes q) c.all-2.new.self _ c.all-2.result c.all-2.ensures.ran (YieldsList-from_first term_of terms_left _ c.of-2.ensures) (λ x b q k. search (rules, tests)) in
+    let kinds = kinds_in c.in_ok-part.part.step.kinds in
+    let e = WrongForm (record_count c.args.self.now) in
+    let named = all_asked (named_comparison kinds) c.all.new.self _ c.all.result e c.args.body.now d form c.of.ensures c.all.ensures.ran (λ x b q k. search (rules, tests)) in
+    let fitting = all_asked (fitting_comparison kinds) c.all-2.new.self _ c.all-2.result e c.args.body.now d form c.of-2.ensures c.all-2.ensures.ran (λ x b q k. search (rules, tests)) in
     rw c.place-place.ensures
-    (select_unfit columns bytes c.args.self.now d stack c.in_ok-part.part plans (sym c.in_ok-part.ensures.ok_part ∙ c.last.ensures)
-    (sym c.if-not-all.false ∙ named ∙ all_terms (WrongForm (record_count c.args.self.now)) p c.args.body.now d form)
-    (sym c.if-not-all-2.true ∙ fitting ∙ all_terms (WrongForm (record_count c.args.self.now)) q c.args.body.now d form))
+    (select_unfit columns bytes c.args.self.now d stack c.in_ok-part.part plans (sym c.in_ok-part.ensures.ok_part ∙ c.last.ensures) (sym c.if-not-all.false ∙ named) (sym c.if-not-all-2.true ∙ fitting))
 
 pub returns : goal.returns
 returns c columns d form bytes stack plans =
-    let p = named_comparison (kinds_in c.in_ok-part.part.step.kinds) in
-    let q = fitting_comparison (kinds_in c.in_ok-part.part.step.kinds) in
-    let named : c.all.result ≡ list_all (passes p) (terms_in c.args.body.now) =
-    all_from_yields_List (passes p) c.all.new.self _ c.all.result c.all.ensures.ran (YieldsList-from_first term_of terms_left _ c.of.ensures) (λ x b q k. search (rules, tests)) in
-    let fitting : c.all-2.result ≡ list_all (passes q) (terms_in c.args.body.now) =
-    all_from_yields_List (passes q) c.all-2.new.self _ c.all-2.result c.all-2.ensures.ran (YieldsList-from_first term_of terms_left _ c.of-2.ensures) (λ x b q k. search (rules, tests)) in
+    let kinds = kinds_in c.in_ok-part.part.step.kinds in
+    let e = WrongForm (record_count c.args.self.now) in
+    let named = all_asked (named_comparison kinds) c.all.new.self _ c.all.result e c.args.body.now d form c.of.ensures c.all.ensures.ran (λ x b q k. search (rules, tests)) in
+    let fitting = all_asked (fitting_comparison kinds) c.all-2.new.self _ c.all-2.result e c.args.body.now d form c.of-2.ensures c.all-2.ensures.ran (λ x b q k. search (rules, tests)) in
     select_grew columns bytes c.args.self.now d stack c.in_ok-part.part _ plans (sym c.in_ok-part.ensures.ok_part ∙ c.last.ensures)
-    (sym c.if-not-all.false ∙ named ∙ all_terms (WrongForm (record_count c.args.self.now)) p c.args.body.now d form)
-    (sym c.if-not-all-2.false ∙ fitting ∙ all_terms (WrongForm (record_count c.args.self.now)) q c.args.body.now d form) (grind arith) refl refl
+    (sym c.if-not-all.false ∙ named) (sym c.if-not-all-2.false ∙ fitting) (grind arith) refl refl
