@@ -34,6 +34,14 @@ module _ (b : Book) (t : ℕ) where
   abbrev ns : List ℕ
   ns = b.rows.counts
 
+  -- a row has a slot
+  pub slot_known : (r : ℕ) → t < length ns → r < get_or ns t 0 → (t < 4) × (r < 256)
+  slot_known r in' h =
+      let four = b.counted in
+      let a : t < 4 = omega arith in
+      let w = within S ns (memory b) t a b.fitting in
+      (a, omega arith)
+
   module _ (row : List Cell) (may : may_store (book_model b) t (map cell_value row) ≡ done tt) where
     pub store_fits : (t < 4) × (length row ≡ width_of S t) × (length row ≤ 8) × (get_or ns t 0 < limit_of (length (memory b)))
     store_fits =

@@ -1,5 +1,5 @@
 -- The entries of a register: finding one, and setting one.
-use Rattle.std.proofs.Common.{◌≡◌, ℕ, suc, ◌+◌, ◌<◌, ◌≤◌, Bool, true, false, cond, not, ◌&&◌, ◌||◌, eqb, List, [], ◌∷◌, ◌++◌, length, get_or, set, Some, None, Option, Err, Result, IsOk, IsErr, ◌⊎◌, inl, inr, sym, refl, ap, ◌∙◌, ⊎_elim, arith}
+use Rattle.std.proofs.Common.{◌≡◌, ℕ, suc, ◌+◌, ◌<◌, ◌≤◌, Bool, true, false, cond, not, ◌&&◌, ◌||◌, eqb, List, [], ◌∷◌, ◌++◌, length, get_or, set, Some, None, Option, Err, Result, IsOk, IsErr, sym, refl, ap, ◌∙◌, ⊎_elim, arith}
 use mathlib.Core.HLevel.{is_prop→PathP}
 use Rattle.std.proofs.Math.Bool.{Bool-set}
 use Rattle.std.specs.List.{find, position, position_from}
@@ -8,10 +8,10 @@ use Rattle.std.proofs.lemmas.Bool.{lt-ltb, le-ltb, ne_eqb, eqb-true, eqb-false, 
 use Rattle.std.proofs.lemmas.Bool.Decides.{nat_tests}
 use Rattle.semantics.specs.declared.mark.Mark.{Mark}
 use Rattle.semantics.specs.declared.mark.Mark.TheVariants.{Shown}
+use Rattle.semantics.specs.declared.refusal.Refusal.TheVariants.{RegisterFull}
 use Rattle.std.specs.Result.{result_or}
 use Rattle.semantics.specs.declared.refusal.Refusal.{Refusal}
-use Rattle.semantics.specs.declared.refusal.Refusal.TheVariants.{RegisterFull}
-use Rattle.policy.proofs.Pushing.{pushed_or}
+use Rattle.policy.proofs.Pushing.{refused_push}
 use Rattle.bounded.specs.Bounded.{items}
 use Rattle.semantics.specs.declared.rule.Consent.{Consent}
 use Rattle.policy.specs.declared.consents.Consents.{Consents}
@@ -233,11 +233,10 @@ module _ (es : List Consent) (e : Consent) (at : None ≡ place es e.key) where
   adds-means = pushed-means es e new
 
 -- two registers with the same entries are one
-pub same_register : (a b : Consents) → a.entries ≡ b.entries → a ≡ b
+same_register : (a b : Consents) → a.entries ≡ b.entries → a ≡ b
 same_register a b e =
     λ i. record { entries = e i; apart = is_prop→PathP (λ j. keys_apart (items (e j)) ≡ true) (λ j. Bool-set (keys_apart (items (e j))) true) a.apart b.apart i }
 
-pub kept_register : {E : Type 0} (r : Result (Unit {0}) E) (e : Refusal) (o : Result (Unit {0}) Refusal) (before after : Consents) → o ≡ result_or r (Err e) → IsOk r ⊎ (IsErr r × (after.entries ≡ before.entries)) → Kept o before after
-kept_register r e o before after is h =
-    pushed_or r e o (λ r. Kept r before after) is
-    (⊎_elim (λ (ok : IsOk r). inl (ok, tt)) (λ (p : IsErr r × (after.entries ≡ before.entries)). inr (p.0, same_register after before p.1)) h)
+-- a register that has no room for one more is kept
+pub kept_register : {E : Type 0} (before after : Consents) (x : Consent) (r : Result (Unit {0}) E) → (length (items before.entries) < 64 → IsOk r × (items after.entries ≡ items before.entries ++ x ∷ [])) → (length (items before.entries) ≡ 64 → IsErr r × (after.entries ≡ before.entries)) → (e : Refusal) (o : Result (Unit {0}) Refusal) → o ≡ result_or r (Err e) → Kept o before after
+kept_register before after x r room full e o is = refused_push before.entries after.entries x r room full e o (λ o. Kept o before after) is (λ l p. tt) (λ l p. same_register after before p)

@@ -3,9 +3,6 @@ use Rattle.semantics.specs.Outcomes.{done}
 use Rattle.book.proofs.Next.{store_fits, store_next}
 use Rattle.book.proofs.book.Book.append.Goals as goal
 
-pub bounds-self-table : goal.bounds-self-table
-bounds-self-table c = (store_fits c.args.self.now c.args.table c.args.row.now c.requires).0
-
 pub invariant_of-slot : goal.invariant_of-slot
 invariant_of-slot c = let k = store_fits c.args.self.now c.args.table c.args.row.now c.requires in record { four = k.0; low = omega arith }
 
