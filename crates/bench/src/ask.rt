@@ -4,7 +4,6 @@ use crate::times::Times;
 use answer::answer;
 use anyhow::Context;
 use book::Book;
-use cells::Cell;
 use policy::Policy;
 use query::{Plan, check, first_record};
 use std::alloc::{AllocError, Global};

@@ -29,16 +29,7 @@ pub(crate) fn columns() -> Result<Draft, Refusal> {
 
 /// Stores a row of eight numbers: 1 to 6, a key and a last one.
 fn store(book: &mut Book<'_>, table: usize, key: u32, last: u32) -> Result<(), Refusal> {
-    let row = [
-        Cell::Number(1),
-        Cell::Number(2),
-        Cell::Number(3),
-        Cell::Number(4),
-        Cell::Number(5),
-        Cell::Number(6),
-        Cell::Number(key),
-        Cell::Number(last),
-    ];
+    let row = [1, 2, 3, 4, 5, 6, key, last].map(Cell::Number);
     book.store(table, &row)
 }
 

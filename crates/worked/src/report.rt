@@ -4,7 +4,6 @@ use crate::ask::Lent;
 use crate::marks::Brokers;
 use anyhow::{Context, bail};
 use book::Book;
-use cells::Cell;
 use reply::refusal_record;
 use std::alloc::{AllocError, Global};
 use std::fmt;
