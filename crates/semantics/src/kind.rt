@@ -6,8 +6,8 @@ use crate::refusal::Refusal;
 /// What the cells of a column hold.
 #[derive(Clone, Copy, PartialEq, Eq, Debug)]
 pub enum Kind {
-    Number,
-    Prefix,
+    Number = 1,
+    Prefix = 2,
 }
 
 /// A column of a table: what its cells hold, and the domain that they may be linked in, 0 for none.
@@ -38,9 +38,6 @@ impl From<Kind> for u8 {
     ghost from_gives = { λ kind number. number ≡ kind_number kind };
 
     fn from(kind: Kind) -> u8 {
-        match kind {
-            Kind::Number => 1,
-            Kind::Prefix => 2,
-        }
+        kind as u8
     }
 }

@@ -4,12 +4,12 @@ ghost use Rattle.semantics.specs.Operators.{operator_number, OperatorFrom};
 /// How a condition compares its left side with its right.
 #[derive(Clone, Copy, PartialEq, Eq, Debug)]
 pub enum Operator {
-    Equal,
-    Unequal,
-    Less,
-    AtMost,
-    Covers,
-    Shorter,
+    Equal = 1,
+    Unequal = 2,
+    Less = 3,
+    AtMost = 4,
+    Covers = 5,
+    Shorter = 6,
 }
 
 /// Said of a number that no operator has.
@@ -40,13 +40,6 @@ impl From<Operator> for u8 {
     ghost from_gives = { λ operator number. number ≡ operator_number operator };
 
     fn from(operator: Operator) -> u8 {
-        match operator {
-            Operator::Equal => 1,
-            Operator::Unequal => 2,
-            Operator::Less => 3,
-            Operator::AtMost => 4,
-            Operator::Covers => 5,
-            Operator::Shorter => 6,
-        }
+        operator as u8
     }
 }
