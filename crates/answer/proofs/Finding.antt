@@ -18,7 +18,9 @@ use Rattle.semantics.specs.Views as semantics
 use Rattle.answer.specs.declared.found.Rows.{Rows}
 use Rattle.answer.specs.Answering.{RowsFound}
 use Rattle.answer.specs.Memos.{Sound, Held, TooLong}
-use Rattle.answer.specs.Places.{Untouched, Apart}
+use Rattle.answer.specs.declared.slot.Slot.{Slot}
+use Rattle.answer.specs.Places.{Placed}
+use Rattle.answer.specs.Slots.{Beside}
 use Rattle.answer.specs.Steps.{relation}
 use Rattle.answer.proofs.Making.{Stands}
 use Rattle.answer.proofs.Places.{block_apart}
@@ -73,23 +75,20 @@ root_is (product q r) = last (nodes q ++ nodes r) (product q r)
 root_is (union q r) = last (nodes q ++ nodes r) (union q r)
 root_is (difference q r) = last (nodes q ++ nodes r) (difference q r)
 
-module _ (columns : List (List Column)) (v : View) (q node : Tree) (is : node ≡ q) (limit first : ℕ) (old new : List Masked) (certain all : Block)
-    (low : Stands columns (view_tables v) Low node old certain) (up : Stands columns (view_tables v) High node old all) where
-  low_rows_lem : block_rows old certain ≡ answers.low (view_tables v) q
+-- The certain and the possible rows, where the latter are made beside the former.
+module _ (here : Slot) {columns : List (List Column)} {v : View} {q node : Tree} {cells : List Masked} {certain all : Block}
+    (is : node ≡ q) (low : Stands columns v Low node cells certain) (up : Stands columns v High node cells all) (m : here.work.now ≡ cells) where
+  low_rows_lem : block_rows here.work.now certain ≡ answers.low (view_tables v) q
   unfolding answer_of
-  low_rows_lem = low.holds ∙ ap (answers.low (view_tables v)) is
+  low_rows_lem = ap (λ w. block_rows w certain) m ∙ low.holds ∙ ap (answers.low (view_tables v)) is
 
-  high-rows : block_rows old all ≡ high (view_tables v) q
+  high-rows : block_rows here.work.now all ≡ high (view_tables v) q
   unfolding answer_of
-  high-rows = up.holds ∙ ap (high (view_tables v)) is
+  high-rows = ap (λ w. block_rows w all) m ∙ up.holds ∙ ap (high (view_tables v)) is
 
   -- what is written beside the certain rows leaves them
-  pub certain-stay : Untouched first limit old new → Apart first limit certain → block_rows new certain ≡ answers.certain (view_tables v) q
-  certain-stay u a = block_apart first limit old new certain u a ∙ low_rows_lem
+  pub certain-stay : {w : ℕ} {new : List Masked} {b : Block} → Placed here.limit here.rows.first w here.work.now new b → Beside here certain → block_rows new certain ≡ answers.certain (view_tables v) q
+  certain-stay {w} {new} {b} p beside = block_apart here.rows.first here.limit here.work.now new certain p.untouched beside.apart ∙ low_rows_lem
 
-  pub possible-are : (b : Block) → block_rows new b ≡ filter (λ x. not (some (takes_out High x) (block_rows old certain))) (block_rows old all) → block_rows new b ≡ answers.possible (view_tables v) q
-  possible-are b e = e ∙ ap₂ (λ ys xs. filter (λ x. not (some (takes_out High x) ys)) xs) low_rows_lem high-rows
-
--- what is left behind the borrow of a slot
-pub found_behind : (limit : ℕ) (tables : List (List (List semantics.Masked))) (q : Tree) (there left : List Masked) (rows : Rows) → left ≡ there → RowsFound limit tables q there (Ok rows) → RowsFound limit tables q left (Ok rows)
-found_behind limit tables q there left rows e f = subst (λ w. RowsFound limit tables q w (Ok rows)) (sym e) f
+  pub possible-are : (new : List Masked) (b : Block) → block_rows new b ≡ filter (λ x. not (some (takes_out High x) (block_rows here.work.now certain))) (block_rows here.work.now all) → block_rows new b ≡ answers.possible (view_tables v) q
+  possible-are new b e = e ∙ ap₂ (λ ys xs. filter (λ x. not (some (takes_out High x) ys)) xs) low_rows_lem high-rows

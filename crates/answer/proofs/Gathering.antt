@@ -1,14 +1,15 @@
 -- The loop that goes over some rows and puts each into a slot, unless it is there.
 use Rattle.std.proofs.Common.{◌≡◌, ℕ, ◌+◌, ◌<◌, ◌≤◌, List, [], ◌∷◌, ◌++◌, map, length, get_or, take, drop, Some, None, Option, sym, refl, ap, ◌∙◌, subst, arith}
 use Rattle.std.specs.Borrow.{Bor}
+use Rattle.std.specs.Option.{option_map, unwrap_or}
 use Rattle.std.proofs.lemmas.List.{append_assoc, append-nil, take_all, length-map, get_or-map}
 use Rattle.book.proofs.Tabled.{length_tabled, slice_index_or_tabled}
 use Rattle.semantics.specs.Answers.{without_repeats, picked}
 use Rattle.semantics.specs.Views as semantics
 use Rattle.view.specs.declared.masked.Masked.{Masked}
 use Rattle.view.specs.declared.view.View.{View}
-use Rattle.view.specs.Views.{masked_of, masked_at, row_in, table_in, view_tables, count_in, width_in}
-use Rattle.view.proofs.Memory.{row-known}
+use Rattle.view.specs.Views.{masked_of, masked_at, row_in, table_in, view_tables, count_in, width_in, RowSeen}
+use Rattle.view.proofs.Memory.{row-known, width-le}
 use Rattle.workspace.specs.declared.block.Block.{Block}
 use Rattle.workspace.specs.Blocks.{block_rows}
 use Rattle.answer.specs.declared.row.Row.{Row}
@@ -33,11 +34,16 @@ row_of_table v t r xs h is =
     let l = ap length (is ∙ ap (λ rows. get_or rows r []) e ∙ f) in
     sym (length-map xs masked_of) ∙ l ∙ length_tabled (λ c. masked_of (masked_at v.cells t r c)) w
 
-module _ (limit first width : ℕ) (old mid : List Masked) (to : Block) (given src : Rows) where
-  -- before the first row, and behind the last
-  pub gathered_none : Placed limit first width old mid to → block_rows mid to ≡ without_repeats given → Makes limit first width (without_repeats (given ++ take 0 src)) old mid (Some to)
-  gathered_none p e = (p, e ∙ ap without_repeats (sym (append-nil given)))
+-- what is copied of it
+pub seen_or : (v : View) (t r : ℕ) (seen : Option (Bor (List Masked))) (none x : Bor (List Masked)) → none.now ≡ [] → x ≡ unwrap_or seen none → RowSeen (view_tables v) t r seen
+    → (length x.now ≤ 8) × (r < length (get_or (view_tables v) t []) → (map masked_of x.now ≡ get_or (get_or (view_tables v) t []) r []) × (length x.now ≡ width_in v t))
+seen_or v t r None none x e is s = let l = ap length (ap (λ (y : Bor (List Masked)). y.now) is ∙ e) in (omega arith, λ h. absurd (omega (arith, s)))
+seen_or v t r (Some cells) none x e is s =
+    let m = ap (λ (y : Bor (List Masked)). map masked_of y.now) is ∙ s.1 in
+    let w = row_of_table v t r x.now s.0 m in
+    (omega (arith, width-le v t), λ h. (m, w))
 
+module _ (limit first width : ℕ) (old mid : List Masked) (to : Block) (given src : Rows) where
   module _ (i : ℕ) (before : Makes limit first width (without_repeats (given ++ take i src)) old mid (Some to)) where
     pub gathered-all : length src ≤ i → Makes limit first width (without_repeats (given ++ src)) old mid (Some to)
     gathered-all h = (before.0, before.1 ∙ ap (λ rows. without_repeats (given ++ rows)) (take_all i src h))
@@ -66,7 +72,7 @@ module _ (finds : Bor (List Masked) → ℕ → Row → Type 0) (start : Slot) (
 
   pub gathering_none : Gathering start 0
   gathering_none = record {
-    same = record { reference = refl; limit_kept = refl };
+    same = record { limit_kept = refl; long = refl };
     placed = record { begins = refl; few = start.few; wide = refl; untouched = untouched-same start.rows.first start.limit start.work.now };
     holds = λ given src e l lists. e ∙ ap without_repeats (sym (append-nil given));
   }
@@ -85,7 +91,7 @@ module _ (finds : Bor (List Masked) → ℕ → Row → Type 0) (start : Slot) (
           let m : Makes start.limit slot.rows.first slot.rows.width (inserted (slot_rows slot) x) slot.work.now new.work.now (Some new.rows)
           = subst (λ n. Makes n slot.rows.first slot.rows.width (inserted (slot_rows slot) x) slot.work.now new.work.now (Some new.rows)) inv.same.limit_kept fills in
           record {
-            same = record { reference = same.reference ∙ inv.same.reference; limit_kept = same.limit_kept ∙ inv.same.limit_kept };
+            same = record { limit_kept = same.limit_kept ∙ inv.same.limit_kept; long = same.long ∙ inv.same.long };
             placed = placed-after start.limit start.rows.first start.rows.width start.work.now slot.work.now new.work.now slot.rows inv.placed new.rows m.0;
             holds = λ given src e l lists.
                 (gathered-more start.limit start.rows.first start.rows.width start.work.now slot.work.now slot.rows given src i (inv.placed, inv.holds given src e l lists) new.work.now x (omega arith)
@@ -104,22 +110,21 @@ module _ (finds : Bor (List Masked) → ℕ → Row → Type 0) (start : Slot) (
 pub gathered_early : (limit first width : ℕ) (old new : List Masked) (xs ys : Rows) → Makes limit first width (without_repeats xs) old new None → Makes limit first width (without_repeats (xs ++ ys)) old new None
 gathered_early limit first width old new xs ys m = let l = without-longer xs ys in (omega (arith, m.0), m.1)
 
-module _ (start mid new : Slot) (same : Same start mid) (placed : Placed start.limit start.rows.first start.rows.width start.work.now mid.work.now mid.rows) (rows : Rows) where
-  pub fills_after : (r : Option (Unit {0})) → Fills rows mid new r → Fills rows start new r
-  fills_after (Some done) m =
-      let p = subst (λ n. Makes n mid.rows.first mid.rows.width rows mid.work.now new.work.now (Some new.rows)) same.limit_kept m in
-      (placed-after start.limit start.rows.first start.rows.width start.work.now mid.work.now new.work.now mid.rows placed new.rows p.0, p.1)
-  fills_after None m =
-      let p = subst (λ n. Makes n mid.rows.first mid.rows.width rows mid.work.now new.work.now None) same.limit_kept m in
-      (p.0, untouched-after start.limit start.rows.first start.rows.width start.work.now mid.work.now new.work.now mid.rows placed p.1)
+-- What a slot is filled with once it has begun anew, or was filled with before.
+pub fills_after : {start mid : Slot} {w : ℕ} → Same start mid → Placed start.limit start.rows.first w start.work.now mid.work.now mid.rows → (new : Slot) (rows : Rows) (r : Option (Unit {0})) → Fills rows mid new r
+    → Makes start.limit start.rows.first w rows start.work.now new.work.now (option_map (λ done. new.rows) r)
+fills_after {start} {mid} {w} same placed new rows (Some done) m =
+    let p = subst (λ n. Makes n mid.rows.first mid.rows.width rows mid.work.now new.work.now (Some new.rows)) same.limit_kept m in
+    (placed-after start.limit start.rows.first w start.work.now mid.work.now new.work.now mid.rows placed new.rows p.0, p.1)
+fills_after {start} {mid} {w} same placed new rows None m =
+    let p = subst (λ n. Makes n mid.rows.first mid.rows.width rows mid.work.now new.work.now None) same.limit_kept m in
+    (p.0, untouched-after start.limit start.rows.first w start.work.now mid.work.now new.work.now mid.rows placed p.1)
 
--- a row of a block that is apart from what was written
-module _ (slot : Slot) (cells : List Masked) (from : Block) (u : Untouched slot.rows.first slot.limit slot.work.now cells) (a : Apart slot.rows.first slot.limit from) (i : ℕ) where
-  pub row_kept : get_or (block_rows cells from) i [] ≡ get_or (block_rows slot.work.now from) i []
-  row_kept = ap (λ rows. get_or rows i []) (block_apart slot.rows.first slot.limit slot.work.now cells from u a)
+pub same_after : {start mid new : Slot} → Same start mid → Same mid new → Same start new
+same_after same more = record { limit_kept = more.limit_kept ∙ same.limit_kept; long = more.long ∙ same.long }
 
-  -- some columns of it
-  pub picked_kept : (columns : List ℕ) → i < length (map (picked columns) (block_rows slot.work.now from)) → picked columns (get_or (block_rows cells from) i []) ≡ get_or (map (picked columns) (block_rows slot.work.now from)) i []
-  picked_kept columns h =
-      let m = length-map (block_rows slot.work.now from) (picked columns) in
-      ap (picked columns) row_kept ∙ sym (get_or-map (picked columns) (block_rows slot.work.now from) i [] [] (omega arith))
+-- some columns of a row of a block
+pub picked_at : {rows there : Rows} → there ≡ rows → (columns : List ℕ) (i : ℕ) → i < length (map (picked columns) rows) → picked columns (get_or there i []) ≡ get_or (map (picked columns) rows) i []
+picked_at {rows} {there} e columns i h =
+    let m = length-map rows (picked columns) in
+    ap (λ l. picked columns (get_or l i [])) e ∙ sym (get_or-map (picked columns) rows i [] [] (omega arith))

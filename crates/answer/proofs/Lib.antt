@@ -9,7 +9,6 @@ pub mod Slots
 pub mod Relations
 pub mod Making
 pub mod Settling
-pub mod Preparing
 pub mod Limits
 pub mod Finding
 pub mod Replying

@@ -1,11 +1,11 @@
 -- What is made of the answers of a relation's parts is its answer.
-use Rattle.std.proofs.Common.{◌≡◌, ℕ, ◌+◌, ◌<◌, not, List, [], ◌++◌, map, length, get_or, Some, None, filter, Option, sym, ap, ◌∙◌, subst, ap₂}
+use Rattle.std.proofs.Common.{◌≡◌, ℕ, ◌+◌, ◌*◌, ◌<◌, ◌≤◌, true, not, List, [], ◌++◌, map, length, get_or, Some, None, filter, Option, sym, refl, ap, ◌∙◌, subst, ap₂, arith}
 use Rattle.std.proofs.lemmas.List.{length-map, length-append}
 use Rattle.semantics.specs.declared.kind.Column.{Column}
 use Rattle.semantics.specs.Answers.{without_repeats, picked, paired}
 use Rattle.semantics.specs.Conditions.{Condition, kind_at}
 use Rattle.semantics.specs.Lists.{some}
-use Rattle.semantics.specs.Queries.{Tree, table, select, project, product, union, difference, nodes, kinds_of}
+use Rattle.semantics.specs.Queries.{Tree, table, select, project, product, union, difference, nodes, kinds_of, proper}
 use Rattle.semantics.specs.Truths.{truth}
 use Rattle.semantics.specs.Views as semantics
 use Rattle.view.specs.declared.masked.Masked.{Masked}
@@ -13,92 +13,98 @@ use Rattle.view.specs.declared.view.View.{View}
 use Rattle.view.specs.Views.{view_tables, width_in}
 use Rattle.workspace.specs.declared.block.Block.{Block}
 use Rattle.workspace.specs.Blocks.{block_rows}
+use Rattle.workspace.proofs.Reading.{length_rows}
 use Rattle.answer.specs.declared.bound.Bound.{Bound}
 use Rattle.answer.specs.Bounds.{answer_of, other, keeps, takes_out, slot}
-use Rattle.answer.specs.Memos.{Held, There}
+use Rattle.answer.specs.Memos.{Sound, Settled}
 use Rattle.answer.specs.declared.slot.Slot.{Slot}
 use Rattle.answer.specs.Places.{Placed, Makes}
-use Rattle.answer.specs.Slots.{Empty}
 use Rattle.answer.specs.Steps.{relation}
-use Rattle.answer.proofs.Relations.{answer-table, answer-select, answer-project, answer-product, answer-union, answer-difference}
-
--- the same said in other words
-pub makes_as : (limit first first' width width' : ℕ) (rows rows' : List (List semantics.Masked)) (old new : List Masked) (r : Option Block)
-    → first ≡ first' → width ≡ width' → rows ≡ rows' → Makes limit first width rows old new r → Makes limit first' width' rows' old new r
-makes_as limit first first' width width' rows rows' old new r e f g m =
-    subst (λ x. Makes limit x width' rows' old new r) e (subst (λ x. Makes limit first x rows' old new r) f (subst (λ x. Makes limit first width x old new r) g m))
-
--- what a slot that began without rows was made to hold
-pub made_in : (limit first w width : ℕ) (cells : List Masked) (slot : Slot) → Empty limit first w cells slot → w ≡ width → (rows : List Masked → List (List semantics.Masked)) (new : List Masked) (r : Option Block)
-    → Makes slot.limit slot.rows.first slot.rows.width (rows slot.work.now) slot.work.now new r → Makes limit first width (rows cells) cells new r
-made_in limit first w width cells slot e f rows new r m =
-    subst (λ x. Makes x first width (rows cells) cells new r) e.limit_is
-    (subst (λ x. Makes slot.limit x width (rows cells) cells new r) e.begins
-    (subst (λ x. Makes slot.limit slot.rows.first x (rows cells) cells new r) (e.wide ∙ f)
-    (subst (λ x. Makes slot.limit slot.rows.first slot.rows.width (rows x) x new r) e.cells_are m)))
-
--- what is left behind the borrow of a slot
-pub left_behind : (columns : List (List Column)) (v : View) (limit first : ℕ) (bound : Bound) (node : Tree) (cells there left : List Masked) (r : Option Block) → left ≡ there
-    → Makes limit first (length (kinds_of columns node)) (answer_of bound (view_tables v) node) cells there r → Makes limit first (length (kinds_of columns node)) (answer_of bound (view_tables v) node) cells left r
-left_behind columns v limit first bound node cells there left r e m = subst (λ w. Makes limit first (length (kinds_of columns node)) (answer_of bound (view_tables v) node) cells w r) (sym e) m
+use Rattle.answer.proofs.Relations.{answer-table, answer-select, answer-project, answer-product, answer-union, answer-difference, product_narrow, union-fitted}
 
 -- the block holds an answer
-pub record Stands (columns : List (List Column)) (tables : List (List (List semantics.Masked))) (bound : Bound) (q : Tree) (cells : List Masked) (b : Block) : Type 0 where
+pub record Stands (columns : List (List Column)) (v : View) (bound : Bound) (q : Tree) (cells : List Masked) (b : Block) : Type 0 where
   pub wide : b.width ≡ length (kinds_of columns q)
-  pub holds : block_rows cells b ≡ answer_of bound tables q
+  pub holds : block_rows cells b ≡ answer_of bound (view_tables v) q
 
-pub part-stands : (columns : List (List Column)) (v : View) (q : Tree) (cells : List Masked) (memo : List (Option Block)) (bound : Bound) (i k : ℕ) (b : Block)
-    → Held columns v q cells memo → i < length (nodes q) → k ≡ slot bound i → There memo (slot bound i) → ((x : Block) → get_or memo k None ≡ Some x → b ≡ x)
-    → Stands columns (view_tables v) bound (relation (nodes q) i) cells b
-part-stands columns v q cells memo bound i k b held h e there found =
-    let at : get_or memo k None ≡ Some there.0 = ap (λ n. get_or memo n None) e ∙ there.1 in
-    let same : b ≡ there.0 = found there.0 at in
-    subst (λ x. Stands columns (view_tables v) bound (relation (nodes q) i) cells x) (sym same)
-    (record { wide = held.wide bound i there.0 h there.1; holds = held.holds bound i there.0 h there.1 })
+-- that of a part which has just been found
+pub stands : {columns : List (List Column)} {v : View} {q : Tree} {bound : Bound} {i : ℕ} {cells : List Masked} {old new : List (Option Block)} {b : Block}
+    → i < length (nodes q) → Settled columns v q bound i cells old new b → Stands columns v bound (relation (nodes q) i) cells b
+stands {columns} {v} {q} {bound} {i} {cells} {old} {new} {b} h s = record { wide = s.held.wide bound i b h s.here; holds = s.held.holds bound i b h s.here }
 
-module _ (columns : List (List Column)) (v : View) (wide : (t : ℕ) → width_in v t ≡ length (get_or columns t [])) (limit first first' : ℕ) (e : first ≡ first')
-    (bound : Bound) (node : Tree) (old new : List Masked) where
-  -- what is to be made of it
-  abbrev Made : Option Block → Type 0
-  Made r = Makes limit first' (length (kinds_of columns node)) (answer_of bound (view_tables v) node) old new r
+block_same : (cells : List Masked) (b c : Block) → b.first ≡ c.first → b.count ≡ c.count → b.width ≡ c.width → block_rows cells b ≡ block_rows cells c
+unfolding block_rows
+block_same cells b c e f g = rw (e, f, g) refl
 
-  pub table-made : (t : ℕ) (r : Option Block) → node ≡ table t → Makes limit first (width_in v t) (without_repeats (get_or (view_tables v) t [])) old new r → Made r
-  table-made t r is m =
-      makes_as limit first first' (width_in v t) (length (kinds_of columns node)) (without_repeats (get_or (view_tables v) t [])) (answer_of bound (view_tables v) node) old new r e
-      (wide t ∙ sym (length-map (get_or columns t []) (λ column. column.kind)) ∙ ap (λ x. length (kinds_of columns x)) (sym is))
-      (answer-table (view_tables v) bound t ∙ ap (answer_of bound (view_tables v)) (sym is)) m
+-- and of one before which another was found since
+pub still_stands : {columns : List (List Column)} {v : View} {q : Tree} {bound bound' : Bound} {i j limit limit' : ℕ} {cells cells' : List Masked} {old new last : List (Option Block)} {b c : Block}
+    → i < length (nodes q) → limit' ≡ limit → Sound limit new → Sound limit' last → Settled columns v q bound i cells old new b → Settled columns v q bound' j cells' new last c
+    → Stands columns v bound (relation (nodes q) i) cells' b
+still_stands {columns} {v} {q} {bound} {bound'} {i} {j} {limit} {limit'} {cells} {cells'} {old} {new} {last} {b} {c} h l sound sound' one two =
+    let here = two.grown (slot bound i) (b, one.here) in
+    let a = stands h one in
+    let wide = two.held.wide bound i here.0 h here.1 in
+    let holds = two.held.holds bound i here.0 h here.1 in
+    let e : b.first ≡ here.0.first = sound.begins (slot bound i) b one.here ∙ ap (λ n. slot bound i * n) (sym l) ∙ sym (sound'.begins (slot bound i) here.0 here.1) in
+    let f : b.count ≡ here.0.count = sym (length_rows cells b) ∙ ap length (a.holds ∙ sym holds) ∙ length_rows cells' here.0 in
+    record { wide = a.wide; holds = block_same cells' b here.0 e f (a.wide ∙ sym wide) ∙ holds }
 
-  module _ (q : Tree) (from : Block) (stands : Stands columns (view_tables v) bound q old from) where
-    pub select-made : (c : Condition) (b : Block) → node ≡ select c q → Placed limit first from.width old new b
-        → block_rows new b ≡ filter (λ x. keeps bound (truth c x)) (block_rows old from) → Made (Some b)
+-- The answer of a relation was made from these cells, or has too many rows.
+abbrev Answered : ℕ → ℕ → List (List Column) → View → Bound → Tree → List Masked → List Masked → Option Block → Type 0
+Answered limit first columns v bound node mid new r = Makes limit first (length (kinds_of columns node)) (answer_of bound (view_tables v) node) mid new r
+
+-- What is made in a slot that was turned to.
+module _ (columns : List (List Column)) (v : View) (here : Slot) {limit first : ℕ} {mid : List Masked} (wide : (t : ℕ) → width_in v t ≡ length (get_or columns t []))
+    (l : here.limit ≡ limit) (f : here.rows.first ≡ first) (m : here.work.now ≡ mid) (bound : Bound) (node : Tree) (new : List Masked) where
+  -- the same said in other words
+  makes_as : (w : ℕ) (rows : List Masked → List (List semantics.Masked)) (whole : Tree) (r : Option Block) → node ≡ whole → w ≡ length (kinds_of columns whole) → rows mid ≡ answer_of bound (view_tables v) whole
+      → Makes here.limit here.rows.first w (rows here.work.now) here.work.now new r → Answered limit first columns v bound node mid new r
+  makes_as w rows whole r is e g k =
+      subst (λ x. Makes limit first (length (kinds_of columns x)) (answer_of bound (view_tables v) x) mid new r) (sym is)
+      (subst (λ x. Makes limit first (length (kinds_of columns whole)) x mid new r) g
+      (subst (λ x. Makes limit first x (rows mid) mid new r) e
+      (subst (λ x. Makes limit first w (rows x) x new r) m
+      (subst (λ x. Makes limit x w (rows here.work.now) here.work.now new r) f
+      (subst (λ x. Makes x here.rows.first w (rows here.work.now) here.work.now new r) l k)))))
+
+  pub table-made : (t : ℕ) (r : Option Block) → node ≡ table t → Makes here.limit here.rows.first (width_in v t) (without_repeats (get_or (view_tables v) t [])) here.work.now new r → Answered limit first columns v bound node mid new r
+  table-made t r is =
+      makes_as (width_in v t) (λ cells. without_repeats (get_or (view_tables v) t [])) (table t) r is
+      (wide t ∙ sym (length-map (get_or columns t []) (λ column. column.kind))) (answer-table (view_tables v) bound t)
+
+  module _ {q : Tree} {from : Block} (a : Stands columns v bound q mid from) where
+    pub select-made : (c : Condition) (b : Block) → node ≡ select c q → Placed here.limit here.rows.first from.width here.work.now new b
+        → block_rows new b ≡ filter (λ x. keeps bound (truth c x)) (block_rows here.work.now from) → Answered limit first columns v bound node mid new (Some b)
     select-made c b is p h =
-        makes_as limit first first' from.width (length (kinds_of columns node)) (filter (λ x. keeps bound (truth c x)) (block_rows old from)) (answer_of bound (view_tables v) node) old new (Some b) e
-        (stands.wide ∙ ap (λ x. length (kinds_of columns x)) (sym is))
-        (ap (filter (λ x. keeps bound (truth c x))) stands.holds ∙ answer-select (view_tables v) bound c q ∙ ap (answer_of bound (view_tables v)) (sym is)) (p, h)
+        makes_as from.width (λ cells. filter (λ x. keeps bound (truth c x)) (block_rows cells from)) (select c q) (Some b) is
+        a.wide (ap (filter (λ x. keeps bound (truth c x))) a.holds ∙ answer-select (view_tables v) bound c q) (p, h)
 
-    pub project-made : (cs : List ℕ) (r : Option Block) → node ≡ project cs q → Makes limit first (length cs) (without_repeats (map (picked cs) (block_rows old from))) old new r → Made r
-    project-made cs r is m =
-        makes_as limit first first' (length cs) (length (kinds_of columns node)) (without_repeats (map (picked cs) (block_rows old from))) (answer_of bound (view_tables v) node) old new r e
-        (sym (length-map cs (kind_at (kinds_of columns q))) ∙ ap (λ x. length (kinds_of columns x)) (sym is))
-        (ap (λ rows. without_repeats (map (picked cs) rows)) stands.holds ∙ answer-project (view_tables v) bound cs q ∙ ap (answer_of bound (view_tables v)) (sym is)) m
+    pub project-made : (cs : List ℕ) (r : Option Block) → node ≡ project cs q → Makes here.limit here.rows.first (length cs) (without_repeats (map (picked cs) (block_rows here.work.now from))) here.work.now new r → Answered limit first columns v bound node mid new r
+    project-made cs r is =
+        makes_as (length cs) (λ cells. without_repeats (map (picked cs) (block_rows cells from))) (project cs q) r is
+        (sym (length-map cs (kind_at (kinds_of columns q)))) (ap (λ rows. without_repeats (map (picked cs) rows)) a.holds ∙ answer-project (view_tables v) bound cs q)
 
-    module _ (s : Tree) (other' : Bound) (right : Block) (stands' : Stands columns (view_tables v) other' s old right) where
-      pub product-made : (r : Option Block) → other' ≡ bound → node ≡ product q s → Makes limit first (from.width + right.width) (paired (block_rows old from) (block_rows old right)) old new r → Made r
-      product-made r o is m =
-          makes_as limit first first' (from.width + right.width) (length (kinds_of columns node)) (paired (block_rows old from) (block_rows old right)) (answer_of bound (view_tables v) node) old new r e
-          (ap₂ ◌+◌ stands.wide stands'.wide ∙ sym (length-append (kinds_of columns q) (kinds_of columns s)) ∙ ap (λ x. length (kinds_of columns x)) (sym is))
-          (ap₂ paired stands.holds (stands'.holds ∙ ap (λ b. answer_of b (view_tables v) s) o) ∙ answer-product (view_tables v) bound q s ∙ ap (answer_of bound (view_tables v)) (sym is)) m
+    module _ {s : Tree} {right : Block} (b : Stands columns v bound s mid right) where
+      pub product-made : (r : Option Block) → proper columns node ≡ true → node ≡ product q s
+          → (from.width + right.width ≤ 8 → Makes here.limit here.rows.first (from.width + right.width) (paired (block_rows here.work.now from) (block_rows here.work.now right)) here.work.now new r) → Answered limit first columns v bound node mid new r
+      product-made r p is k =
+          let narrow = product_narrow columns q s (ap (proper columns) (sym is) ∙ p) in
+          makes_as (from.width + right.width) (λ cells. paired (block_rows cells from) (block_rows cells right)) (product q s) r is
+          (ap₂ ◌+◌ a.wide b.wide ∙ sym (length-append (kinds_of columns q) (kinds_of columns s)))
+          (ap₂ paired a.holds b.holds ∙ answer-product (view_tables v) bound q s) (k (omega (arith, a.wide, b.wide)))
 
-      pub union-made : (r : Option Block) → other' ≡ bound → node ≡ union q s → Makes limit first from.width (without_repeats (block_rows old from ++ block_rows old right)) old new r → Made r
-      union-made r o is m =
-          makes_as limit first first' from.width (length (kinds_of columns node)) (without_repeats (block_rows old from ++ block_rows old right)) (answer_of bound (view_tables v) node) old new r e
-          (stands.wide ∙ ap (λ x. length (kinds_of columns x)) (sym is))
-          (ap₂ (λ a b. without_repeats (a ++ b)) stands.holds (stands'.holds ∙ ap (λ b. answer_of b (view_tables v) s) o) ∙ answer-union (view_tables v) bound q s ∙ ap (answer_of bound (view_tables v)) (sym is)) m
+      pub union-made : (r : Option Block) → proper columns node ≡ true → node ≡ union q s
+          → (right.width ≡ from.width → Makes here.limit here.rows.first from.width (without_repeats (block_rows here.work.now from ++ block_rows here.work.now right)) here.work.now new r) → Answered limit first columns v bound node mid new r
+      union-made r p is k =
+          let fitted = union-fitted columns q s (ap (proper columns) (sym is) ∙ p) in
+          makes_as from.width (λ cells. without_repeats (block_rows cells from ++ block_rows cells right)) (union q s) r is
+          a.wide (ap₂ (λ a b. without_repeats (a ++ b)) a.holds b.holds ∙ answer-union (view_tables v) bound q s) (k (b.wide ∙ fitted ∙ sym a.wide))
 
-      pub difference-made : (b : Block) → other' ≡ other bound → node ≡ difference q s → Placed limit first from.width old new b
-          → block_rows new b ≡ filter (λ x. not (some (takes_out bound x) (block_rows old right))) (block_rows old from) → Made (Some b)
-      difference-made b o is p h =
-          makes_as limit first first' from.width (length (kinds_of columns node)) (filter (λ x. not (some (takes_out bound x) (block_rows old right))) (block_rows old from)) (answer_of bound (view_tables v) node) old new (Some b) e
-          (stands.wide ∙ ap (λ x. length (kinds_of columns x)) (sym is))
-          (ap₂ (λ ys xs. filter (λ x. not (some (takes_out bound x) ys)) xs) (stands'.holds ∙ ap (λ b. answer_of b (view_tables v) s) o) stands.holds
-          ∙ answer-difference (view_tables v) bound q s ∙ ap (answer_of bound (view_tables v)) (sym is)) (p, h)
+    pub difference-made : {s : Tree} {right : Block} {bound' : Bound} → Stands columns v bound' s mid right → (b : Block) → bound' ≡ other bound → node ≡ difference q s
+        → Placed here.limit here.rows.first from.width here.work.now new b
+        → block_rows new b ≡ filter (λ x. not (some (takes_out bound x) (block_rows here.work.now right))) (block_rows here.work.now from) → Answered limit first columns v bound node mid new (Some b)
+    difference-made {s} {right} {bound'} d b o is p h =
+        makes_as from.width (λ cells. filter (λ x. not (some (takes_out bound x) (block_rows cells right))) (block_rows cells from)) (difference q s) (Some b) is
+        a.wide
+        (ap₂ (λ ys xs. filter (λ x. not (some (takes_out bound x) ys)) xs) (d.holds ∙ ap (λ b. answer_of b (view_tables v) s) o) a.holds
+        ∙ answer-difference (view_tables v) bound q s) (p, h)

@@ -7,7 +7,7 @@ use Rattle.semantics.specs.Views as semantics
 use Rattle.semantics.proofs.Pieces.{joined_append}
 use Rattle.workspace.specs.declared.block.Block.{Block}
 use Rattle.workspace.specs.Blocks.{block_rows}
-use Rattle.workspace.proofs.Reading.{length_rows, rows_none}
+use Rattle.workspace.proofs.Reading.{length_rows}
 use Rattle.answer.specs.declared.slot.Slot.{Slot}
 use Rattle.answer.specs.Places.{Untouched, Placed, Pushed}
 use Rattle.answer.specs.Slots.{Same, Beside, slot_rows}
@@ -25,7 +25,7 @@ module _ (start : Slot) (right : Block) (row : List semantics.Masked) where
 
   pub following_none : Following start 0
   following_none = record {
-    same = record { reference = refl; limit_kept = refl };
+    same = record { limit_kept = refl; long = refl };
     placed = record { begins = refl; few = start.few; wide = refl; untouched = untouched-same start.rows.first start.limit start.work.now };
     more = omega arith;
     holds = sym (append-nil (slot_rows start));
@@ -38,7 +38,7 @@ module _ (start : Slot) (right : Block) (row : List semantics.Masked) where
         let q : Pushed start.limit slot.rows y slot.work.now new.work.now new.rows
         = subst (λ n. Pushed n slot.rows y slot.work.now new.work.now new.rows) inv.same.limit_kept pushed in
         record {
-          same = record { reference = same.reference ∙ inv.same.reference; limit_kept = same.limit_kept ∙ inv.same.limit_kept };
+          same = record { limit_kept = same.limit_kept ∙ inv.same.limit_kept; long = same.long ∙ inv.same.long };
           placed = placed-after start.limit start.rows.first start.rows.width start.work.now slot.work.now new.work.now slot.rows inv.placed new.rows q.placed;
           more = omega (arith, q.more, inv.more);
           holds =
@@ -75,17 +75,9 @@ module _ (start : Slot) (left right : Block) where
   -- Each of the `i` first rows of the left block, followed by each row of the right one, stands in the slot.
   pub record Pairing (slot : Slot) (i : ℕ) : Type 0 where
     pub same : Same start slot
-    pub placed : Placed start.limit start.rows.first start.rows.width start.work.now slot.work.now slot.rows
+    pub placed : Placed start.limit start.rows.first (left.width + right.width) start.work.now slot.work.now slot.rows
     pub many : slot.rows.count ≡ i * right.count
     pub holds : slot_rows slot ≡ paired (take i (block_rows start.work.now left)) (block_rows start.work.now right)
-
-  pub pairing_none : start.rows.count ≡ 0 → Pairing start 0
-  pairing_none none = record {
-    same = record { reference = refl; limit_kept = refl };
-    placed = record { begins = refl; few = start.few; wide = refl; untouched = untouched-same start.rows.first start.limit start.work.now };
-    many = omega arith;
-    holds = rows_none start.work.now start.rows none;
-  }
 
   pub too_many_lem : start.limit < left.count * right.count → (start.limit < length (paired (block_rows start.work.now left) (block_rows start.work.now right))) × Untouched start.rows.first start.limit start.work.now start.work.now
   too_many_lem h =
@@ -98,8 +90,8 @@ module _ (start : Slot) (left right : Block) where
         → (new : Slot) → Same slot new → Placed slot.limit slot.rows.first slot.rows.width slot.work.now new.work.now new.rows → new.rows.count ≡ slot.rows.count + right.count
         → slot_rows new ≡ slot_rows slot ++ map (λ s. x ++ s) (block_rows slot.work.now right) → Pairing new (i + 1)
     pairing_more al ar h x is new same p more holds = record {
-      same = record { reference = same.reference ∙ inv.same.reference; limit_kept = same.limit_kept ∙ inv.same.limit_kept };
-      placed = placed-after start.limit start.rows.first start.rows.width start.work.now slot.work.now new.work.now slot.rows inv.placed new.rows
+      same = record { limit_kept = same.limit_kept ∙ inv.same.limit_kept; long = same.long ∙ inv.same.long };
+      placed = placed-after start.limit start.rows.first (left.width + right.width) start.work.now slot.work.now new.work.now slot.rows inv.placed new.rows
           (subst (λ n. Placed n slot.rows.first slot.rows.width slot.work.now new.work.now new.rows) inv.same.limit_kept p);
       many = omega (arith, suc-mul i right.count, more, inv.many);
       holds =

@@ -14,9 +14,8 @@ use Rattle.view.specs.Views.{view_tables, width_in}
 use Rattle.workspace.specs.declared.block.Block.{Block}
 use Rattle.workspace.specs.Blocks.{block_rows}
 use Rattle.answer.specs.declared.bound.Bound.{Bound}
-use Rattle.answer.specs.declared.step.Step.{Step}
-use Rattle.answer.specs.declared.step.Step.TheVariants.{Table, Select, Project, Product, Union, Difference}
-use Rattle.answer.specs.Bounds.{answer_of, other, slot}
+use Rattle.answer.specs.Bounds.{answer_of, slot}
+use Rattle.answer.specs.Places.{Makes}
 use Rattle.answer.specs.Steps.{relation}
 
 -- The bytes are a well-formed query over these columns, the plan is its plan, and the view's tables have these columns.
@@ -46,15 +45,6 @@ There memo k = (b : Block) × (slice_index_or memo k None ≡ Some b)
 abbrev pub Grown : List (Option Block) → List (Option Block) → Type 0
 Grown old new = (k : ℕ) → There old k → There new k
 
--- The answers that a step needs have been found.
-abbrev pub Ready : Bound → List (Option Block) → Step → Type 0
-Ready bound memo (Table t) = Unit {0}
-Ready bound memo (Select l condition) = There memo (slot bound l)
-Ready bound memo (Project l columns) = There memo (slot bound l)
-Ready bound memo (Product l r) = There memo (slot bound l) × There memo (slot bound r)
-Ready bound memo (Union l r) = There memo (slot bound l) × There memo (slot bound r)
-Ready bound memo (Difference l r) = There memo (slot bound l) × There memo (slot (other bound) r)
-
 -- The answer of relation number `i` has been found, and the block is its.
 pub record Settled (columns : List (List Column)) (view : View) (q : Tree) (bound : Bound) (i : ℕ) (cells : List Masked) (old new : List (Option Block)) (b : Block) : Type 0 where
   pub held : Held columns view q cells new
@@ -65,6 +55,18 @@ pub record Settled (columns : List (List Column)) (view : View) (q : Tree) (boun
 abbrev pub TooLong : ℕ → View → Tree → ℕ → Type 0
 TooLong limit view q i = (j : ℕ) × (j ≤ i) × (limit < length (high (view_tables view) (relation (nodes q) j)))
 
+-- The answer of relation number `i` was made in its place, when those of its parts had been found.
+pub record Brought (limit : ℕ) (columns : List (List Column)) (view : View) (q : Tree) (bound : Bound) (i : ℕ) (cells : List Masked) (old new : List (Option Block)) (b : Block) : Type 0 where
+  pub mid : List Masked
+  pub held : Held columns view q mid new
+  pub grown : Grown old new
+  pub made : Makes limit (slot bound i * limit) (length (kinds_of columns (relation (nodes q) i))) (answer_of bound (view_tables view) (relation (nodes q) i)) mid cells (Some b)
+
+-- It was made, or there are too many rows.
+abbrev pub Made : ℕ → List (List Column) → View → Tree → Bound → ℕ → List Masked → List (Option Block) → List (Option Block) → Option Block → Type 0
+Made limit columns view q bound i cells old new (Some b) = Brought limit columns view q bound i cells old new b
+Made limit columns view q bound i cells old new None = TooLong limit view q i
+
 -- The answer is found, or there are too many rows.
 abbrev pub Found : ℕ → List (List Column) → View → Tree → Bound → ℕ → List Masked → List (Option Block) → List (Option Block) → Option Block → Type 0
 Found limit columns view q bound i cells old new (Some b) = Settled columns view q bound i cells old new b
@@ -74,8 +76,3 @@ Found limit columns view q bound i cells old new None = TooLong limit view q i
 abbrev pub NoneTooLong : ℕ → List (List Column) → View → Tree → List Masked → List (Option Block) → Result (Unit {0}) Refusal → Type 0
 NoneTooLong limit columns view q cells memo (Ok done) = (overflow limit (view_tables view) q ≡ None) × Held columns view q cells memo
 NoneTooLong limit columns view q cells memo (Err e) = (n : ℕ) × (overflow limit (view_tables view) q ≡ Some n) × (refuse {X = List ℕ} e ≡ refuse (TooManyRows n))
-
--- The block, if there is one, begins at this row and has at most `limit` rows.
-abbrev pub InSlot : ℕ → ℕ → Option Block → Type 0
-InSlot limit first None = Unit {0}
-InSlot limit first (Some b) = (b.first ≡ first) × (b.count ≤ limit)

@@ -41,3 +41,8 @@ inserted rows r = cond (some (same_row r) rows) rows (rows ++ r ∷ [])
 abbrev pub Makes : ℕ → ℕ → ℕ → List (List semantics.Masked) → List Masked → List Masked → Option Block → Type 0
 Makes limit first width rows old new (Some b) = Placed limit first width old new b × (block_rows new b ≡ rows)
 Makes limit first width rows old new None = (limit < length rows) × Untouched first limit old new
+
+-- The block, if there is one, begins at this row and has at most `limit` rows.
+abbrev pub InSlot : ℕ → ℕ → Option Block → Type 0
+InSlot limit first None = Unit {0}
+InSlot limit first (Some b) = (b.first ≡ first) × (b.count ≤ limit)

@@ -10,27 +10,20 @@ use Rattle.answer.specs.declared.slot.Slot.{Slot}
 use Rattle.answer.specs.Places.{Untouched, Apart, Makes}
 use Rattle.answer.specs.Rows.{row_of}
 
--- A slot without rows in a workspace of these cells.
-pub record Empty (limit first width : ℕ) (cells : List Masked) (slot : Slot) : Type 0 where
-  pub limit_is : slot.limit ≡ limit
-  pub begins : slot.rows.first ≡ first
-  pub none : slot.rows.count ≡ 0
-  pub wide : slot.rows.width ≡ width
-  pub cells_are : slot.work.now ≡ cells
-
 -- The rows of a slot.
 abbrev pub slot_rows : Slot → List (List semantics.Masked)
 slot_rows slot = block_rows slot.work.now slot.rows
 
--- It is the same slot, of the same workspace.
+-- It is as long as before, and its workspace is.
 pub record Same (old new : Slot) : Type 0 where
-  pub reference : new.work.ghost_name ≡ old.work.ghost_name
   pub limit_kept : new.limit ≡ old.limit
+  pub long : length new.work.now ≡ length old.work.now
 
--- The block stands in the workspace, and has no row of the slot.
+-- The block stands in the workspace, has no row of the slot, and no more rows than the slot may have.
 pub record Beside (slot : Slot) (b : Block) : Type 0 where
   pub apart : Apart slot.rows.first slot.limit b
   pub within : 8 * (b.first + b.count) ≤ length slot.work.now
+  pub few : b.count ≤ slot.limit
 
 -- Nothing but rows of the slot was written.
 abbrev pub Beyond : Slot → List Masked → Type 0

@@ -1,4 +1,4 @@
-ghost use Rattle.std.specs.Prelude.{◌≡◌, ◌≤◌, not, filter};
+ghost use Rattle.std.specs.Prelude.{◌≡◌, not, filter};
 ghost use Rattle.semantics.specs.Lists.{some};
 ghost use Rattle.workspace.specs.Blocks.{block_rows};
 ghost use Rattle.answer.specs.Bounds.{takes_out};
@@ -12,15 +12,11 @@ use workspace::Block;
 impl Slot<'_> {
     /// The rows of the left block that no row of the right one takes out.
     pub(crate) fn difference(&mut self, bound: Bound, left: Block, right: Block) -> Block
-        requires none { self.old.rows.count ≡ 0 }
         requires beside { Beside self.old left × Beside self.old right }
-        requires few { left.count ≤ self.old.limit }
-        requires wide { left.width ≡ self.old.rows.width }
         ensures same { Same self.old self.new }
-        ensures placed { Placed self.old.limit self.old.rows.first self.old.rows.width self.old.work.now self.new.work.now result }
+        ensures placed { Placed self.old.limit self.old.rows.first left.width self.old.work.now self.new.work.now result }
         ensures holds { block_rows self.new.work.now result ≡ filter (λ x. not (some (takes_out bound x) (block_rows self.old.work.now right))) (block_rows self.old.work.now left) }
     {
-        self.keep(left, |work, row| !bound.some_takes_out(work, right, row));
-        self.rows
+        self.keep(left, |work, row| !bound.some_takes_out(work, right, row))
     }
 }

@@ -1,16 +1,13 @@
-ghost use Rattle.std.specs.Prelude.{◌*◌, ◌<◌, List, ◌≢◌};
+ghost use Rattle.std.specs.Prelude.{◌<◌, List, ◌≢◌};
 ghost use Rattle.semantics.specs.declared.kind.Column.{Column};
 ghost use Rattle.semantics.specs.Queries.{Tree};
 ghost use Rattle.view.specs.Views.{view_tables};
-ghost use Rattle.answer.specs.declared.bound.Bound.TheVariants.{Low, High};
-ghost use Rattle.answer.specs.Bounds.{slot};
 ghost use Rattle.answer.specs.Answering.{RowsFound};
 ghost use Rattle.answer.specs.Memos.{Over, Held};
 
 use crate::bound::Bound;
 use crate::memo::Memo;
 use crate::overfull::{overfull, too_many_rows};
-use crate::slot::Slot;
 use crate::task::Task;
 use semantics::Refusal;
 use workspace::Block;
@@ -22,31 +19,26 @@ pub(crate) struct Rows {
     pub(crate) possible: Block,
 }
 
-/// A slot that the answers of this record do not use.
+/// The number of another record.
 fn spare(number: usize) -> usize
-    ensures low { result < 30 }
-    ensures free { ((result ≢ slot Low number)) × ((result ≢ slot High number)) }
+    ensures low { result < 15 }
+    ensures other { result ≢ number }
 {
-    if number == 0 { 2 } else { 0 }
+    usize::from(number == 0)
 }
 
 /// The certain and the possible rows of a query, or the refusal where a high answer has too many rows.
 pub(crate) fn found(task: Task, memo: &mut Memo) -> Result<Rows, Refusal>
-    ensures { (columns : List (List Column)) (q : Tree) → Over columns task.entry.view.now task.entry.query.now task.entry.plan.now q → Held columns task.entry.view.now q memo.old.work.now memo.old.found → RowsFound memo.old.limit (view_tables task.entry.view.now) q memo.new.work.now result }
+    ensures { (columns : List (List Column)) (q : Tree) → Over columns task.entry.view.now task.entry.query.now task.entry.plan.now q → Held columns task.entry.view.now q memo.old.slot.work.now memo.old.found → RowsFound memo.old.slot.limit (view_tables task.entry.view.now) q memo.new.slot.work.now result }
 {
     overfull(task, memo)?;
     let count = task.plan.count();
     let root = count.checked_sub(1).ok_or(Refusal::NotOneRelation(0))?;
     let low = task.evaluate(Bound::Low, memo, root);
-    low.ok_or(too_many_rows(root))?;
+    let certain = low.ok_or(too_many_rows(root))?;
     let high = task.evaluate(Bound::High, memo, root);
-    high.ok_or(too_many_rows(root))?;
-    let certain = memo.part(Bound::Low.slot(root));
-    let all = memo.part(Bound::High.slot(root));
-    let limit = memo.limit;
-    let first = spare(root) * limit;
-    let work = &mut *memo.work;
-    let mut slot = Slot::empty(work, limit, first, all.width);
-    let possible = slot.difference(Bound::High, all, certain);
+    let all = high.ok_or(too_many_rows(root))?;
+    memo.turn(Bound::Low, spare(root));
+    let possible = memo.slot.difference(Bound::High, all, certain);
     Ok(Rows { certain, possible })
 }

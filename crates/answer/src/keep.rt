@@ -1,11 +1,11 @@
-ghost use Rattle.std.specs.Prelude.{◌≡◌, ◌+◌, ◌≤◌, ◌++◌, List, Bool, filter};
+ghost use Rattle.std.specs.Prelude.{◌≡◌, List, Bool, filter};
 ghost use Rattle.std.specs.Borrow.{Bor};
 ghost use Rattle.semantics.specs.Views as semantics;
 ghost use Rattle.view.specs.declared.masked.Masked as cell;
 ghost use Rattle.workspace.specs.Blocks.{block_rows};
 ghost use Rattle.answer.specs.declared.row.Row as buffer;
 ghost use Rattle.answer.specs.Places.{Placed};
-ghost use Rattle.answer.specs.Slots.{Same, Beside, Tells, slot_rows};
+ghost use Rattle.answer.specs.Slots.{Same, Beside, Tells};
 
 use crate::row::Row;
 use crate::slot::Slot;
@@ -21,17 +21,15 @@ impl Slot<'_> {
         test(self.work, row)
     }
 
-    /// Puts the rows of a block that pass a test behind the others. The test is handed the cells of the
-    /// workspace and the row.
-    pub(crate) fn keep<F: Fn(&[Masked], &Row) -> bool>(&mut self, from: Block, test: F)
+    /// The rows of a block that pass a test, which is handed the cells of the workspace and the row.
+    pub(crate) fn keep<F: Fn(&[Masked], &Row) -> bool>(&mut self, from: Block, test: F) -> Block
         requires callable { (cells : Bor (List cell.Masked)) (row : Bor buffer.Row) → F.pre test cells row }
         requires beside { Beside self.old from }
-        requires few { self.old.rows.count + from.count ≤ self.old.limit }
-        requires wide { from.width ≡ self.old.rows.width }
         ensures same { Same self.old self.new }
-        ensures placed { Placed self.old.limit self.old.rows.first self.old.rows.width self.old.work.now self.new.work.now self.new.rows }
-        ensures holds { (passes : List semantics.Masked → Bool) → Tells (F.post test) self.old passes → slot_rows self.new ≡ slot_rows self.old ++ filter passes (block_rows self.old.work.now from) }
+        ensures placed { Placed self.old.limit self.old.rows.first from.width self.old.work.now self.new.work.now result }
+        ensures holds { (passes : List semantics.Masked → Bool) → Tells (F.post test) self.old passes → block_rows self.new.work.now result ≡ filter passes (block_rows self.old.work.now from) }
     {
+        self.start(from.width);
         // the loop writes the cells that it reads
         for number in 0..from.count {
             let row = self.copy(from, number);
@@ -39,5 +37,6 @@ impl Slot<'_> {
                 self.push(row.cells());
             }
         }
+        self.rows
     }
 }

@@ -4,7 +4,6 @@
 
 mod bound;
 mod difference;
-mod empty;
 mod evaluate;
 mod fetch;
 mod found;

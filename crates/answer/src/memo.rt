@@ -1,33 +1,35 @@
-ghost use Rattle.std.specs.Prelude.{◌≡◌, ◌*◌, ◌<◌, ◌≤◌, length, Some, None, slice_index_or};
-ghost use Rattle.workspace.specs.declared.block.Block as block;
+ghost use Rattle.std.specs.Prelude.{◌≡◌, ◌*◌, ◌<◌, ◌≤◌, length};
+ghost use Rattle.answer.specs.Bounds as bounds;
 ghost use Rattle.answer.specs.Memos.{Sound};
 
-use view::Masked;
+use crate::bound::Bound;
+use crate::slot::Slot;
 use workspace::Block;
 
-/// The answers that have been found, in a workspace of 30 slots of `limit` rows each.
+/// The answers that have been found, each in its own slot of a workspace, and the slot of the one
+/// that is made.
 #[derive(Drop)]
 pub(crate) struct Memo<'w> {
-    pub(crate) work: &'w mut [Masked],
-    pub(crate) limit: usize,
+    pub(crate) slot: Slot<'w>,
     pub(crate) found: [Option<Block>; 30],
-    ghost few: { limit ≤ 512 },
-    ghost room: { 240 * limit ≤ length work.now },
-    ghost sound: { Sound limit found },
+    ghost few: { slot.limit ≤ 512 },
+    ghost room: { 240 * slot.limit ≤ length slot.work.now },
+    ghost sound: { Sound slot.limit found },
 }
 
 impl Memo<'_> {
-    /// The answer of a slot, which is there once it has been found.
-    pub(crate) fn part(&self, slot: usize) -> Block
-        requires low { slot < 30 }
-        ensures found { (b : block.Block) → slice_index_or self.now.found slot None ≡ Some b → result ≡ b }
-        ensures begins { result.first ≡ slot * self.now.limit }
-        ensures few { result.count ≤ self.now.limit }
+    /// Turns to the slot of a record's answer, which is without rows then.
+    pub(crate) fn turn(&mut self, bound: Bound, number: usize)
+        requires low { number < 15 }
+        ensures limit { self.new.slot.limit ≡ self.old.slot.limit }
+        ensures first { self.new.slot.rows.first ≡ bounds.slot bound number * self.old.slot.limit }
+        ensures work { self.new.slot.work.now ≡ self.old.slot.work.now }
+        ensures found { self.new.found ≡ self.old.found }
     {
-        self.found[slot].unwrap_or(Block {
-            first: slot * self.limit,
+        self.slot.rows = Block {
+            first: bound.slot(number) * self.slot.limit,
             count: 0,
             width: 0,
-        })
+        };
     }
 }

@@ -19,8 +19,8 @@ pub(crate) fn too_many_rows(number: usize) -> Refusal
 
 /// Finds all high answers, or refuses the lowest record whose high answer has too many rows.
 pub(crate) fn overfull(task: Task, memo: &mut Memo) -> Result<(), Refusal>
-    ensures limit { memo.new.limit ≡ memo.old.limit }
-    ensures lowest { (columns : List (List Column)) (q : Tree) → Over columns task.entry.view.now task.entry.query.now task.entry.plan.now q → Held columns task.entry.view.now q memo.old.work.now memo.old.found → NoneTooLong memo.old.limit columns task.entry.view.now q memo.new.work.now memo.new.found result }
+    ensures limit { memo.new.slot.limit ≡ memo.old.slot.limit }
+    ensures lowest { (columns : List (List Column)) (q : Tree) → Over columns task.entry.view.now task.entry.query.now task.entry.plan.now q → Held columns task.entry.view.now q memo.old.slot.work.now memo.old.found → NoneTooLong memo.old.slot.limit columns task.entry.view.now q memo.new.slot.work.now memo.new.found result }
 {
     // no `find`: of what a closure writes nothing would be known behind it
     for number in 0..task.plan.count() {

@@ -1,7 +1,7 @@
 ghost use Rattle.std.specs.Prelude.{◌≡◌, ◌+◌, ◌≤◌, ◌++◌, map, length};
 ghost use Rattle.semantics.specs.Answers.{paired};
 ghost use Rattle.workspace.specs.Blocks.{block_rows};
-ghost use Rattle.answer.specs.Places.{Placed, Makes};
+ghost use Rattle.answer.specs.Places.{Placed, Makes, InSlot};
 ghost use Rattle.answer.specs.Rows.{row_of};
 ghost use Rattle.answer.specs.Slots.{Same, Beside, slot_rows};
 
@@ -29,18 +29,18 @@ impl Slot<'_> {
     }
 
     /// Each row of the left block followed by each row of the right one; none where that makes too
-    /// many.
+    /// many, or too wide ones.
     pub(crate) fn product(&mut self, left: Block, right: Block) -> Option<Block>
-        requires none { self.old.rows.count ≡ 0 }
         requires beside { Beside self.old left × Beside self.old right }
-        requires wide { left.width + right.width ≡ self.old.rows.width }
-        requires few { (left.count ≤ self.old.limit) × (right.count ≤ self.old.limit) }
         ensures same { Same self.old self.new }
-        ensures makes { Makes self.old.limit self.old.rows.first self.old.rows.width (paired (block_rows self.old.work.now left) (block_rows self.old.work.now right)) self.old.work.now self.new.work.now result }
+        ensures within { InSlot self.old.limit self.old.rows.first result }
+        ensures makes { left.width + right.width ≤ 8 → Makes self.old.limit self.old.rows.first (left.width + right.width) (paired (block_rows self.old.work.now left) (block_rows self.old.work.now right)) self.old.work.now self.new.work.now result }
     {
-        if left.count * right.count > self.limit {
+        let width = left.width + right.width;
+        if width > 8 || left.count * right.count > self.limit {
             return None;
         }
+        self.start(width);
         // the loop writes the cells that it reads
         for number in 0..left.count {
             let row = self.copy(left, number);

@@ -11,13 +11,12 @@ use workspace::Block;
 impl Slot<'_> {
     /// The listed columns of the rows of a block, without repeats; none where there are too many.
     pub(crate) fn project(&mut self, from: Block, columns: &[u8]) -> Option<Block>
-        requires none { self.old.rows.count ≡ 0 }
         requires beside { Beside self.old from }
         requires few { length columns.now ≤ 8 }
-        requires wide { length columns.now ≡ self.old.rows.width }
         ensures same { Same self.old self.new }
-        ensures makes { Makes self.old.limit self.old.rows.first self.old.rows.width (without_repeats (map (picked columns.now) (block_rows self.old.work.now from))) self.old.work.now self.new.work.now result }
+        ensures makes { Makes self.old.limit self.old.rows.first (length columns.now) (without_repeats (map (picked columns.now) (block_rows self.old.work.now from))) self.old.work.now self.new.work.now result }
     {
+        self.start(columns.len());
         self.gather(from.count, |work, number| {
             Row::picked(from.row(work, number), columns)
         })?;

@@ -3,7 +3,7 @@ ghost use Rattle.semantics.specs.Answers.{same_row};
 ghost use Rattle.semantics.specs.Lists.{some};
 ghost use Rattle.view.specs.Views.{masked_of};
 ghost use Rattle.workspace.specs.Blocks.{block_rows};
-ghost use Rattle.answer.specs.Places.{Pushed, inserted};
+ghost use Rattle.answer.specs.Places.{Placed, Pushed, inserted};
 ghost use Rattle.answer.specs.Rows.{row_of};
 ghost use Rattle.answer.specs.Slots.{Same, Fills, slot_rows};
 
@@ -13,6 +13,17 @@ use view::Masked;
 use workspace::Block;
 
 impl Slot<'_> {
+    /// Begins anew, without rows, for rows of this width.
+    pub(crate) fn start(&mut self, width: usize)
+        requires { width ≤ 8 }
+        ensures same { Same self.old self.new }
+        ensures placed { Placed self.old.limit self.old.rows.first width self.old.work.now self.new.work.now self.new.rows }
+        ensures none { self.new.rows.count ≡ 0 }
+    {
+        self.rows.count = 0;
+        self.rows.width = width;
+    }
+
     /// Puts a row behind the others; there is room for it.
     pub(crate) fn push(&mut self, row: &[Masked])
         requires few { self.old.rows.count < self.old.limit }
@@ -23,11 +34,7 @@ impl Slot<'_> {
         let start = 8 * (self.rows.first + self.rows.count);
         let end = start + row.len();
         self.work[start..end].copy_from_slice(row);
-        self.rows = Block {
-            first: self.rows.first,
-            count: self.rows.count + 1,
-            width: self.rows.width,
-        };
+        self.rows.count += 1;
     }
 
     /// A copy of a row of a block, without cells where the block has no row of this number.

@@ -14,19 +14,20 @@ ghost use Rattle.answer.specs.Memos.{Over};
 
 use crate::found::{Rows, found};
 use crate::memo::Memo;
+use crate::slot::Slot;
 use crate::task::Task;
 use query::Plan;
 use reply::write_reply;
 use semantics::Refusal;
 use view::{Masked, View};
-use workspace::clear;
+use workspace::{Block, clear};
 
 impl Memo<'_> {
     /// Writes the certain and the possible rows, where the reply has room for them.
     fn write(&self, rows: Rows, reply: &mut [u8]) -> Option<usize>
-        ensures { Written (reply_bytes (block_rows self.now.work.now rows.certain) (block_rows self.now.work.now rows.possible)) reply.old reply.new result }
+        ensures { Written (reply_bytes (block_rows self.now.slot.work.now rows.certain) (block_rows self.now.slot.work.now rows.possible)) reply.old reply.new result }
     {
-        write_reply(self.work, rows.certain, rows.possible, reply)
+        write_reply(self.slot.work, rows.certain, rows.possible, reply)
     }
 }
 
@@ -43,9 +44,13 @@ fn respond(
 {
     let limit = (work.len() / 240).min(512);
     let task = Task { view, plan, query };
+    let rows = Block {
+        first: 0,
+        count: 0,
+        width: 0,
+    };
     let mut memo = Memo {
-        work,
-        limit,
+        slot: Slot { work, limit, rows },
         found: [None; 30],
     };
     let rows = found(task, &mut memo)?;

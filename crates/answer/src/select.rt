@@ -1,4 +1,4 @@
-ghost use Rattle.std.specs.Prelude.{◌≡◌, ◌≤◌, filter};
+ghost use Rattle.std.specs.Prelude.{◌≡◌, filter};
 ghost use Rattle.semantics.specs.declared.refusal.Refusal.{Refusal};
 ghost use Rattle.semantics.specs.Conditions.{Condition};
 ghost use Rattle.semantics.specs.Outcomes.{done};
@@ -30,15 +30,11 @@ impl Slot<'_> {
     /// The rows of a block for which a condition is true, for the high answer also those for which it
     /// is unknown.
     pub(crate) fn select(&mut self, bound: Bound, from: Block, condition: &[u8]) -> Block
-        requires none { self.old.rows.count ≡ 0 }
         requires beside { Beside self.old from }
-        requires few { from.count ≤ self.old.limit }
-        requires wide { from.width ≡ self.old.rows.width }
         ensures same { Same self.old self.new }
-        ensures placed { Placed self.old.limit self.old.rows.first self.old.rows.width self.old.work.now self.new.work.now result }
+        ensures placed { Placed self.old.limit self.old.rows.first from.width self.old.work.now self.new.work.now result }
         ensures holds { (e : Refusal) (c : Condition) → condition_form e condition.now ≡ done c → block_rows self.new.work.now result ≡ filter (λ x. keeps bound (truth c x)) (block_rows self.old.work.now from) }
     {
-        self.keep(from, |_, row| bound.selects(condition, row));
-        self.rows
+        self.keep(from, |_, row| bound.selects(condition, row))
     }
 }

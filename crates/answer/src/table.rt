@@ -15,20 +15,16 @@ fn seen(view: &View, table: usize, number: usize) -> Row
     ensures row { number < length (slice_index_or (view_tables view.now) table []) → row_of result ≡ slice_index_or (slice_index_or (view_tables view.now) table []) number [] }
     ensures wide { number < length (slice_index_or (view_tables view.now) table []) → length (row_of result) ≡ width_in view.now table }
 {
-    match view.row(table, number) {
-        Some(row) => Row::of(row),
-        None => Row::empty(),
-    }
+    Row::of(view.row(table, number).unwrap_or(&[]))
 }
 
 impl Slot<'_> {
     /// The rows of a table of a view, without repeats; none where there are too many.
     pub(crate) fn table(&mut self, view: &View, table: usize) -> Option<Block>
-        requires none { self.old.rows.count ≡ 0 }
-        requires wide { width_in view.now table ≡ self.old.rows.width }
         ensures same { Same self.old self.new }
-        ensures makes { Makes self.old.limit self.old.rows.first self.old.rows.width (without_repeats (slice_index_or (view_tables view.now) table [])) self.old.work.now self.new.work.now result }
+        ensures makes { Makes self.old.limit self.old.rows.first (width_in view.now table) (without_repeats (slice_index_or (view_tables view.now) table [])) self.old.work.now self.new.work.now result }
     {
+        self.start(view.width(table));
         self.gather(view.row_count(table), |_, number| seen(view, table, number))?;
         Some(self.rows)
     }

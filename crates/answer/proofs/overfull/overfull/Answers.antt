@@ -7,7 +7,7 @@ use Rattle.answer.proofs.Limits.{high-few, passed_none, passed-more, passed_stop
 use Rattle.answer.proofs.overfull.overfull.Goals as goal
 
 pub loop-number-init : goal.loop-number-init
-loop-number-init c = (refl, λ columns q over held. (passed_none c.args.memo.now.limit c.args.task.view.now q, held))
+loop-number-init c = (refl, λ columns q over held. (passed_none c.args.memo.now.slot.limit c.args.task.view.now q, held))
 
 pub evaluate-high-requires : goal.evaluate-high-requires
 evaluate-high-requires c = record { lower = omega (arith, c.loop-number-test.true, c.count-number-end.ensures.few) }
@@ -22,10 +22,10 @@ returns-in_err-ok_or c =
       lowest = λ columns q over held.
           let i = c.loop-number.invariant.1 columns q over held in
           let h : c.loop-number.number < length (nodes q) = omega (arith, c.loop-number-test.true, over.planned.counted) in
-          let found = subst (λ n. Found n columns c.args.task.view.now q High c.loop-number.number c.evaluate-high.new.memo.work.now c.loop-number.memo.found c.evaluate-high.new.memo.found c.evaluate-high.result) same (c.evaluate-high.ensures.found columns q over h i.1) in
-          let long = subst (λ r. Found c.args.memo.now.limit columns c.args.task.view.now q High c.loop-number.number c.evaluate-high.new.memo.work.now c.loop-number.memo.found c.evaluate-high.new.memo.found r) none.0 found in
+          let found = subst (λ n. Found n columns c.args.task.view.now q High c.loop-number.number c.evaluate-high.new.memo.slot.work.now c.loop-number.memo.found c.evaluate-high.new.memo.found c.evaluate-high.result) same (c.evaluate-high.ensures.found columns q over h i.1) in
+          let long = subst (λ r. Found c.args.memo.now.slot.limit columns c.args.task.view.now q High c.loop-number.number c.evaluate-high.new.memo.slot.work.now c.loop-number.memo.found c.evaluate-high.new.memo.found r) none.0 found in
           rw (p.1, p.2, none.1, c.too_many_rows.ensures)
-          (c.loop-number.number, sym (passed_stop c.args.memo.now.limit c.args.task.view.now q c.loop-number.number h i.0 long), refl);
+          (c.loop-number.number, sym (passed_stop c.args.memo.now.slot.limit c.args.task.view.now q c.loop-number.number h i.0 long), refl);
     }
 
 pub loop-number-preserved : goal.loop-number-preserved
@@ -35,11 +35,11 @@ loop-number-preserved c =
       λ columns q over held.
           let i = c.loop-number.invariant.1 columns q over held in
           let h : c.loop-number.number < length (nodes q) = omega (arith, c.loop-number-test.true, over.planned.counted) in
-          let found = subst (λ n. Found n columns c.args.task.view.now q High c.loop-number.number c.evaluate-high.new.memo.work.now c.loop-number.memo.found c.evaluate-high.new.memo.found c.evaluate-high.result) same (c.evaluate-high.ensures.found columns q over h i.1) in
-          let s = subst (λ r. Found c.args.memo.now.limit columns c.args.task.view.now q High c.loop-number.number c.evaluate-high.new.memo.work.now c.loop-number.memo.found c.evaluate-high.new.memo.found r) c.in_ok-ok_or.ensures.ok_part found in
+          let found = subst (λ n. Found n columns c.args.task.view.now q High c.loop-number.number c.evaluate-high.new.memo.slot.work.now c.loop-number.memo.found c.evaluate-high.new.memo.found c.evaluate-high.result) same (c.evaluate-high.ensures.found columns q over h i.1) in
+          let s = subst (λ r. Found c.args.memo.now.slot.limit columns c.args.task.view.now q High c.loop-number.number c.evaluate-high.new.memo.slot.work.now c.loop-number.memo.found c.evaluate-high.new.memo.found r) c.in_ok-ok_or.ensures.ok_part found in
           let sound = subst (λ n. Sound n c.evaluate-high.new.memo.found) (c.evaluate-high.ensures.limit ∙ same) c.evaluate-high.new.memo.sound in (
-            passed-more c.args.memo.now.limit c.args.task.view.now q c.loop-number.number h i.0
-                (high-few c.args.memo.now.limit columns c.args.task.view.now q c.loop-number.number c.evaluate-high.new.memo.work.now c.loop-number.memo.found c.evaluate-high.new.memo.found _ h sound s),
+            passed-more c.args.memo.now.slot.limit c.args.task.view.now q c.loop-number.number h i.0
+                (high-few c.args.memo.now.slot.limit columns c.args.task.view.now q c.loop-number.number c.evaluate-high.new.memo.slot.work.now c.loop-number.memo.found c.evaluate-high.new.memo.found _ h sound s),
             s.held,
           ),
     )
@@ -49,5 +49,5 @@ returns c = record {
   limit = c.loop-number.invariant.0;
   lowest = λ columns q over held.
       let i = c.loop-number.invariant.1 columns q over held in
-      (sym (passed-all c.args.memo.now.limit c.args.task.view.now q c.loop-number.number (omega (arith, c.loop-number-test.false, over.planned.counted)) i.0), i.1);
+      (sym (passed-all c.args.memo.now.slot.limit c.args.task.view.now q c.loop-number.number (omega (arith, c.loop-number-test.false, over.planned.counted)) i.0), i.1);
 }

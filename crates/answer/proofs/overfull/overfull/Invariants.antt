@@ -7,6 +7,6 @@ use Rattle.answer.proofs.overfull.overfull.Given as goal
 
 abbrev pub invariant-loop-number : goal.invariant-loop-number
 invariant-loop-number l =
-    (l.memo.limit ≡ l.initial.memo.limit) ×
-    ((columns : List (List Column)) (q : Tree) → Over columns l.task.view.now l.task.query.now l.task.plan.now q → Held columns l.task.view.now q l.initial.memo.work.now l.initial.memo.found
-    → Passed l.initial.memo.limit l.task.view.now q l.number × Held columns l.task.view.now q l.memo.work.now l.memo.found)
+    (l.memo.slot.limit ≡ l.initial.memo.slot.limit) ×
+    ((columns : List (List Column)) (q : Tree) → Over columns l.task.view.now l.task.query.now l.task.plan.now q → Held columns l.task.view.now q l.initial.memo.slot.work.now l.initial.memo.found
+    → Passed l.initial.memo.slot.limit l.task.view.now q l.number × Held columns l.task.view.now q l.memo.slot.work.now l.memo.found)

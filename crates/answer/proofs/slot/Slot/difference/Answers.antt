@@ -1,7 +1,6 @@
-use Rattle.std.proofs.Common.{rules, not, ◌++◌, filter, sym, ap, ◌∙◌}
+use Rattle.std.proofs.Common.{rules, not, sym}
 use Rattle.semantics.specs.Lists.{some}
 use Rattle.workspace.specs.Blocks.{block_rows}
-use Rattle.workspace.proofs.Reading.{rows_none}
 use Rattle.answer.specs.Bounds.{takes_out}
 use Rattle.answer.proofs.Places.{block_apart}
 use Rattle.answer.proofs.slot.Slot.difference.Goals as goal
@@ -9,7 +8,5 @@ use Rattle.answer.proofs.slot.Slot.difference.Goals as goal
 pub returns-clause-holds : goal.returns-clause-holds
 returns-clause-holds c =
     let s = c.args.self.now in
-    let right = block_rows s.work.now c.args.right in
-    c.keep.ensures.holds (λ x. not (some (takes_out c.args.bound x) right))
+    c.keep.ensures.holds (λ x. not (some (takes_out c.args.bound x) (block_rows s.work.now c.args.right)))
     (λ cells row b u post. rw (sym (block_apart s.rows.first s.limit s.work.now cells.now c.args.right u c.requires.beside.1.apart)) (search rules))
-    ∙ ap (λ rows. rows ++ filter (λ x. not (some (takes_out c.args.bound x) right)) (block_rows s.work.now c.args.left)) (rows_none s.work.now s.rows c.requires.none)

@@ -1,13 +1,22 @@
 use Rattle.std.proofs.Common.{arith}
+use Rattle.workspace.proofs.Reading.{rows_none}
 use Rattle.answer.proofs.Filtering.{keeping_on, keeping_off, keeping_all}
 use Rattle.answer.proofs.slot.Slot.keep.Goals as goal
 use Rattle.answer.proofs.slot.Slot.keep.Goals.{then-passes, else-passes}
+
+pub loop-number-init : goal.loop-number-init
+loop-number-init g c = record {
+  same = c.start.ensures.same;
+  placed = c.start.ensures.placed;
+  seen = omega arith;
+  holds = λ passes tells. rows_none c.start.new.self.work.now c.start.new.self.rows c.start.ensures.none;
+}
 
 pub push-requires-clause-wide : goal.push-requires-clause-wide
 push-requires-clause-wide g c =
     let inv = c.loop-number.invariant in
     let w = c.copy-row.ensures.wide c.loop-number-test.true (omega (arith, inv.placed.untouched.long, c.requires.beside.within)) in
-    omega (arith, c.cells.ensures.wide, w, inv.placed.wide, c.requires.wide)
+    omega (arith, c.cells.ensures.wide, w, inv.placed.wide)
 
 pub loop-number-preserved : goal.loop-number-preserved
 loop-number-preserved g c =

@@ -1,22 +1,33 @@
 use Rattle.std.proofs.Common.{arith}
+use Rattle.workspace.proofs.Reading.{rows_none}
 use Rattle.answer.specs.Rows.{row_of}
 use Rattle.answer.proofs.Filtering.{beside_kept}
-use Rattle.answer.proofs.Pairing.{pairs_fit, too_many_lem, pairing_none, pairing_more, pairing_all}
+use Rattle.answer.proofs.Pairing.{pairs_fit, too_many_lem, pairing_more, pairing_all}
 use Rattle.answer.proofs.slot.Slot.product.Goals as goal
+use Rattle.answer.proofs.slot.Slot.product.Goals.{then-width-gt8-via-then-width-gt8, then-width-gt8-via-else-width-gt8+then-left-right}
 
-pub returns-then-left-right-clause-makes : goal.returns-then-left-right-clause-makes
-returns-then-left-right-clause-makes c = too_many_lem c.args.self.now c.args.left c.args.right c.if-left-right.true
+pub returns-then-width-gt8-clause-makes : goal.returns-then-width-gt8-clause-makes
+returns-then-width-gt8-clause-makes c narrow =
+    elim c.then-width-gt8.branch [
+      | then-width-gt8-via-then-width-gt8 w ↦ absurd (omega arith)
+      | then-width-gt8-via-else-width-gt8+then-left-right w ↦ too_many_lem c.args.self.now c.args.left c.args.right w.if-left-right.true
+    ]
 
 pub loop-number-init : goal.loop-number-init
-loop-number-init c = pairing_none c.args.self.now c.args.left c.args.right c.requires.none
+loop-number-init c = record {
+  same = c.start.ensures.same;
+  placed = c.start.ensures.placed;
+  many = omega (arith, c.start.ensures.none);
+  holds = rows_none c.start.new.self.work.now c.start.new.self.rows c.start.ensures.none;
+}
 
 pub pair-requires : goal.pair-requires
 pair-requires c =
     let inv = c.loop-number.invariant in
     let w = c.copy-row.ensures.wide c.loop-number-test.true (omega (arith, inv.placed.untouched.long, c.requires.beside.0.within)) in
     record {
-      beside = beside_kept c.args.self.now c.loop-number.self c.args.right inv.same inv.placed c.requires.beside.1;
-      wide = omega (arith, w, c.requires.wide, inv.placed.wide);
+      beside = beside_kept inv.same inv.placed c.requires.beside.1;
+      wide = omega (arith, w, inv.placed.wide);
       few = omega (arith, pairs_fit c.loop-number.number c.args.left.count c.args.right.count c.loop-number-test.true, c.if-left-right.false, inv.many, inv.same.limit_kept);
     }
 
@@ -26,7 +37,7 @@ loop-number-preserved c =
     (row_of c.copy-row.result) c.copy-row.ensures.row c.pair.new.self c.pair.ensures.same c.pair.ensures.placed c.pair.ensures.more c.pair.ensures.holds
 
 pub returns-clause-makes : goal.returns-clause-makes
-returns-clause-makes c = (
+returns-clause-makes c narrow = (
   c.loop-number.invariant.placed,
   pairing_all c.args.self.now c.args.left c.args.right c.loop-number.self c.loop-number.number c.loop-number.invariant c.loop-number-test.false,
 )

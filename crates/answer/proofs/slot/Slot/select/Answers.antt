@@ -1,12 +1,10 @@
-use Rattle.std.proofs.Common.{rules, ◌≡◌, ℕ, Bool, List, ◌++◌, filter, ap, ◌∙◌}
+use Rattle.std.proofs.Common.{rules, ◌≡◌, ℕ, Bool, List}
 use Rattle.semantics.specs.declared.refusal.Refusal.{Refusal}
 use Rattle.semantics.specs.Conditions.{Condition}
 use Rattle.semantics.specs.Outcomes.{done}
 use Rattle.semantics.specs.Reading.{condition_form}
 use Rattle.semantics.specs.Truths.{truth}
 use Rattle.semantics.specs.Views.{Masked}
-use Rattle.workspace.specs.Blocks.{block_rows}
-use Rattle.workspace.proofs.Reading.{rows_none}
 use Rattle.answer.specs.declared.bound.Bound.{Bound}
 use Rattle.answer.specs.Bounds.{keeps}
 use Rattle.answer.specs.Selecting.{Selects}
@@ -16,6 +14,4 @@ selects_is : (bound : Bound) (bytes : List ℕ) (row : List Masked) (kept : Bool
 selects_is bound bytes row kept e c s is = s.is e c is
 
 pub returns-clause-holds : goal.returns-clause-holds
-returns-clause-holds c e k is =
-    c.keep.ensures.holds (λ x. keeps c.args.bound (truth k x)) (λ cells row b u post. search (rules, selects_is))
-    ∙ ap (λ rows. rows ++ filter (λ x. keeps c.args.bound (truth k x)) (block_rows c.args.self.now.work.now c.args.from)) (rows_none c.args.self.now.work.now c.args.self.now.rows c.requires.none)
+returns-clause-holds c e k is = c.keep.ensures.holds (λ x. keeps c.args.bound (truth k x)) (λ cells row b u post. search (rules, selects_is))
