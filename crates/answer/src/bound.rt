@@ -5,7 +5,7 @@ ghost use Rattle.compare.specs.Truths.{truth_of};
 use compare::Truth;
 
 /// Which of the two answers of a query is meant.
-#[derive(Clone, Copy)]
+#[derive(Clone, Copy, PartialEq, Eq, Debug)]
 pub(crate) enum Bound {
     Low,
     High,

@@ -6,7 +6,6 @@ ghost use Rattle.answer.specs.Rows.{row_of};
 
 use crate::row::Row;
 use bounded::Bounded;
-use cells::Cell;
 use view::{Masked, cell_at};
 use workspace::Block;
 
@@ -16,7 +15,7 @@ impl Row {
         ensures { row_of result ≡ [] }
     {
         Row {
-            cells: Bounded::new(Masked::Value(Cell::Number(0))),
+            cells: Bounded::new(Masked::ZERO),
         }
     }
 
@@ -26,7 +25,7 @@ impl Row {
         ensures { row_of result ≡ map masked_of cells.now }
     {
         let mut row = Row::empty();
-        let _ = row.cells.extend(cells);
+        row.cells.extend(cells).unwrap();
         row
     }
 
@@ -44,7 +43,7 @@ impl Row {
         ensures { row_of result ≡ row_of self.now ++ map masked_of cells.now }
     {
         let mut row = *self;
-        let _ = row.cells.extend(cells);
+        row.cells.extend(cells).unwrap();
         row
     }
 
@@ -59,15 +58,14 @@ impl Row {
 
     /// The listed columns of some cells, in the listed order. A column that is not there is the number 0.
     // Beside the like of `query` on kinds: there a column that is missing ends all, and here it is the number 0.
-    #[tactic(auto, using(std::proofs::lemmas::List::take_all))]
     pub(crate) fn picked(cells: &[Masked], columns: &[u8]) -> Row
         requires { length columns.now ≤ 8 }
         ensures { row_of result ≡ picked columns.now (map masked_of cells.now) }
     {
         let mut row = Row::empty();
-        for column in columns {
-            let _ = row.cells.push(cell_at(cells, *column));
-        }
+        row.cells
+            .extend_from(columns.iter().map(|column| cell_at(cells, *column)))
+            .unwrap();
         row
     }
 }

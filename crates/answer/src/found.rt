@@ -13,7 +13,7 @@ use semantics::Refusal;
 use workspace::Block;
 
 /// The certain and the possible rows of a query, as they stand in a workspace.
-#[derive(Clone, Copy)]
+#[derive(Clone, Copy, PartialEq, Eq, Debug)]
 pub(crate) struct Rows {
     pub(crate) certain: Block,
     pub(crate) possible: Block,

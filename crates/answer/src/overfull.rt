@@ -1,4 +1,4 @@
-ghost use Rattle.std.specs.Prelude.{◌≡◌, ◌<◌, List};
+ghost use Rattle.std.specs.Prelude.{◌≡◌, ◌<◌, ◌≤◌, List};
 ghost use Rattle.semantics.specs.declared.kind.Column.{Column};
 ghost use Rattle.semantics.specs.declared.refusal.Refusal.TheVariants.{TooManyRows};
 ghost use Rattle.semantics.specs.Queries.{Tree};
@@ -9,12 +9,21 @@ use crate::memo::Memo;
 use crate::task::Task;
 use semantics::Refusal;
 
+/// A number of records, or that of one, as the place of a refusal.
+pub(crate) fn place(number: usize) -> u8
+    requires { number ≤ 15 }
+    ensures { result ≡ number }
+{
+    // `as` keeps a number of at most 15
+    number as u8
+}
+
 /// The refusal of the record of this number, whose answer has too many rows.
 pub(crate) fn too_many_rows(number: usize) -> Refusal
     requires { number < 15 }
     ensures { result ≡ TooManyRows number }
 {
-    Refusal::TooManyRows(number as u8)
+    Refusal::TooManyRows(place(number))
 }
 
 /// Finds all high answers, or refuses the lowest record whose high answer has too many rows.

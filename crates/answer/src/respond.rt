@@ -14,6 +14,7 @@ ghost use Rattle.answer.specs.Memos.{Over};
 
 use crate::found::{Rows, found};
 use crate::memo::Memo;
+use crate::overfull::place;
 use crate::slot::Slot;
 use crate::task::Task;
 use query::Plan;
@@ -55,7 +56,7 @@ fn respond(
     };
     let rows = found(task, &mut memo)?;
     let size = memo.write(rows, reply);
-    size.ok_or(Refusal::ReplyTooLong(plan.count() as u8))
+    size.ok_or(Refusal::ReplyTooLong(place(plan.count())))
 }
 
 /// Answers a query over a view: writes the reply with its certain and possible rows, and says how

@@ -27,6 +27,6 @@ returns c =
     (record {
       replies = λ columns q over.
           replied_or (view_tables c.args.view.now) (length c.args.work.now) c.min-limit.result q c.found.new.memo.slot.work.now c.args.reply.now c.min-limit.ensures c.in_ok-rows.rows
-          (c.in_ok-rows.ensures columns q over (held_none columns c.args.view.now q c.args.work.now)) c.write-size.result c.write-size.new.reply c.count.result c.write-size.auto.reply (c.count.ensures.value ∙ over.planned.counted) c.write-size.ensures;
-      kept = kept_or _ c.args.reply.now c.write-size.new.reply c.write-size.result (ReplyTooLong c.count.result) c.write-size.ensures;
+          (c.in_ok-rows.ensures columns q over (held_none columns c.args.view.now q c.args.work.now)) c.write-size.result c.write-size.new.reply c.place.result c.write-size.auto.reply (c.place.ensures ∙ c.count.ensures.value ∙ over.planned.counted) c.write-size.ensures;
+      kept = kept_or _ c.args.reply.now c.write-size.new.reply c.write-size.result (ReplyTooLong c.place.result) c.write-size.ensures;
     })
