@@ -1,4 +1,3 @@
-pub mod Buffers
 pub mod Places
 pub mod Loops
 pub mod Gathering

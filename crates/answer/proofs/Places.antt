@@ -1,8 +1,8 @@
 -- What a write to one row leaves of a workspace, and what a block holds then.
 use Rattle.std.proofs.Common.{◌≡◌, ℕ, ◌+◌, ◌-◌, ◌*◌, ◌<◌, ◌≤◌, true, false, ◌⊎◌, List, [], ◌∷◌, ◌++◌, map, length, take, drop, Some, None, sym, refl, ap, ◌∙◌, inl, inr, ⊎_elim, arith}
 use borrow.Rule.Slice.PartMut.{put_mid}
-use Rattle.std.proofs.lemmas.List.{take-take, drop-take, length_push}
-use Rattle.std.proofs.lemmas.Slice.{take-put_mid_below, drop-put_mid, between-put_mid}
+use Rattle.std.proofs.lemmas.List.{take-take, drop-take, length_push, length-append, length-take, length-drop}
+use Rattle.std.proofs.lemmas.Slice.{take-put_mid_below, drop-put_mid, between-put_mid, put_mid-paste}
 use Rattle.std.proofs.lemmas.Bool.{cond-true, cond-false}
 use Rattle.book.proofs.Tabled.{tabled-more, tabled-same}
 use Rattle.semantics.specs.Answers.{same_row}
@@ -14,7 +14,6 @@ use Rattle.workspace.specs.declared.block.Block.{Block}
 use Rattle.workspace.specs.Blocks.{row_at, block_rows}
 use Rattle.workspace.proofs.Reading.{length_rows}
 use Rattle.answer.specs.Places.{eight, Untouched, Apart, Pushed, Makes, inserted}
-use Rattle.answer.proofs.Buffers.{length_written}
 
 -- rows that are as they were
 row_kept : (old new : List Masked) (w k : ℕ) → w ≤ 8 → eight new k ≡ eight old k → row_at new w k ≡ row_at old w k
@@ -61,7 +60,9 @@ module _ (old ys row : List Masked) (k : ℕ) (room : 8 * k + 8 ≤ length old) 
       ap (take 8) (drop-put_mid (8 * k) (8 * k + length row - 8 * k) old ys (8 * j) (omega arith) (omega arith) (omega arith))
 
   written_length : length new ≡ length old
-  written_length = length_written old ys row (8 * k) (omega arith) is
+  written_length =
+      ap length (put_mid-paste (8 * k) (8 * k + length row - 8 * k) old ys row (length row) is (omega arith) refl)
+      ∙ simp (length-append, length-take, length-drop) (omega arith)
 
 module _ (limit : ℕ) (to b : Block) (old ys row : List Masked) (room : 8 * (to.first + limit) ≤ length old) (few : to.count < limit)
     (wide : length row ≡ to.width) (is : ys ≡ row) (first : b.first ≡ to.first) (count : b.count ≡ to.count + 1) (width : b.width ≡ to.width) where
