@@ -18,7 +18,9 @@ use Rattle.query.specs.Plans.{planned_in, record_count, positions_in, position_o
 use Rattle.query.specs.Saying.{First, Says}
 use Rattle.query.proofs.Checking.{said_here}
 use Rattle.query.proofs.Widths.{got_none}
-use Rattle.answer.specs.Steps.{relation}
+use Rattle.query.specs.declared.record.Record.TheVariants.{Table, Select, Project, Product, Union, Difference}
+use Rattle.answer.specs.Steps as steps
+use Rattle.answer.specs.Steps.{relation, Below}
 
 module _ (columns : List (List Column)) (bytes : List ℕ) (plan : Plan) (qs : List Tree) (plans : Plans columns bytes plan qs) (i : ℕ) (h : i < length qs) where
   -- what is read at the record's place
@@ -102,3 +104,12 @@ module _ (qs : List Tree) (i left : ℕ) where
   is-difference (product q r) e p = let z : ◌≡◌ {A = ℕ} 0 1 = cc in absurd (omega arith)
   is-difference (union q r) e p = let z : ◌≡◌ {A = ℕ} 0 1 = cc in absurd (omega arith)
   is-difference (difference q r) e p = let a = p.1 in let b = p.3 in (cc, p.0, omega (arith, p.2))
+
+-- A record with its parts stands for its tree.
+pub says_of : (qs : List Tree) (i : ℕ) (said : Record) (l r : ℕ) (q : Tree) → r ≡ i - 1 → Says i said (record_of q) → Parted qs i l q → steps.Says qs i said l r q × Below i said l r
+says_of qs i (Table t) l r q e s p = (is-table qs i l q t s, tt)
+says_of qs i (Select condition) l r q e s p = let k = is-select qs i l q s.0 s.2 p in ((s.0, s.1, k.0), k.1)
+says_of qs i (Project columns) l r q e s p = let k = is-project qs i l q columns.now s.0 p in (k.0, (k.1, s.1))
+says_of qs i Product l r q e s p = let k = is-product qs i l q s p in (k.0 ∙ ap (λ n. product (relation qs l) (relation qs n)) (sym e), (k.1, subst (λ n. n < i) (sym e) k.2))
+says_of qs i Union l r q e s p = let k = is_union qs i l q s p in (k.0 ∙ ap (λ n. union (relation qs l) (relation qs n)) (sym e), (k.1, subst (λ n. n < i) (sym e) k.2))
+says_of qs i Difference l r q e s p = let k = is-difference qs i l q s p in (k.0 ∙ ap (λ n. difference (relation qs l) (relation qs n)) (sym e), (k.1, subst (λ n. n < i) (sym e) k.2))

@@ -7,8 +7,8 @@ ghost use Rattle.answer.specs.Places.{InSlot};
 
 use crate::bound::Bound;
 use crate::memo::Memo;
-use crate::step::Step;
 use crate::task::Task;
+use query::Record;
 use workspace::Block;
 
 impl Task<'_, '_, '_> {
@@ -21,37 +21,38 @@ impl Task<'_, '_, '_> {
         ensures within { InSlot memo.old.slot.limit (slot bound number * memo.old.slot.limit) result }
         ensures made { (columns : List (List Column)) (q : Tree) → Over columns self.entry.view.now self.entry.query.now self.entry.plan.now q → number < length (nodes q) → Held columns self.entry.view.now q memo.old.slot.work.now memo.old.found → Made memo.old.slot.limit columns self.entry.view.now q bound number memo.new.slot.work.now memo.old.found memo.new.found result }
     {
-        // a closed enum, whose operations differ in how many parts they take
-        match self.step(number)? {
-            Step::Table(t) => {
+        let step = self.step(number)?;
+        // an arm for each operation: they take one part or two, and answer a block or an option of it
+        match step.said {
+            Record::Table(table) => {
                 memo.turn(bound, number);
-                memo.slot.table(self.view, t)
+                memo.slot.table(self.view, usize::from(table))
             }
-            Step::Select(l, condition) => {
-                let from = self.evaluate(bound, memo, l)?;
+            Record::Select(condition) => {
+                let from = self.evaluate(bound, memo, step.left)?;
                 memo.turn(bound, number);
                 Some(memo.slot.select(bound, from, condition))
             }
-            Step::Project(l, columns) => {
-                let from = self.evaluate(bound, memo, l)?;
+            Record::Project(columns) => {
+                let from = self.evaluate(bound, memo, step.left)?;
                 memo.turn(bound, number);
                 memo.slot.project(from, columns)
             }
-            Step::Product(l, r) => {
-                let left = self.evaluate(bound, memo, l)?;
-                let right = self.evaluate(bound, memo, r)?;
+            Record::Product => {
+                let left = self.evaluate(bound, memo, step.left)?;
+                let right = self.evaluate(bound, memo, step.right)?;
                 memo.turn(bound, number);
                 memo.slot.product(left, right)
             }
-            Step::Union(l, r) => {
-                let left = self.evaluate(bound, memo, l)?;
-                let right = self.evaluate(bound, memo, r)?;
+            Record::Union => {
+                let left = self.evaluate(bound, memo, step.left)?;
+                let right = self.evaluate(bound, memo, step.right)?;
                 memo.turn(bound, number);
                 memo.slot.union(left, right)
             }
-            Step::Difference(l, r) => {
-                let left = self.evaluate(bound, memo, l)?;
-                let right = self.evaluate(bound.other(), memo, r)?;
+            Record::Difference => {
+                let left = self.evaluate(bound, memo, step.left)?;
+                let right = self.evaluate(bound.other(), memo, step.right)?;
                 memo.turn(bound, number);
                 Some(memo.slot.difference(bound, left, right))
             }

@@ -1,11 +1,9 @@
-// Not `query::Record` with a type parameter for the parts: its other users have no parts to name.
-/// What a record of a query says, with the numbers of its parts.
+use query::Record;
+
+/// A record of a query, with the numbers of its left or only part and of its right part.
 #[derive(Clone, Copy, PartialEq, Eq, Debug)]
-pub(crate) enum Step<'q> {
-    Table(usize),
-    Select(usize, &'q [u8]),
-    Project(usize, &'q [u8]),
-    Product(usize, usize),
-    Union(usize, usize),
-    Difference(usize, usize),
+pub(crate) struct Step<'q> {
+    pub(crate) said: Record<'q>,
+    pub(crate) left: usize,
+    pub(crate) right: usize,
 }

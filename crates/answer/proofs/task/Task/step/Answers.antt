@@ -3,7 +3,7 @@ use Rattle.std.specs.Bool.{then_some}
 use Rattle.semantics.specs.Queries.{Tree}
 use Rattle.answer.specs.declared.step.Step.{Step}
 use Rattle.answer.specs.Steps.{relation, StepOf, StepIs, Lower, MayBeLower}
-use Rattle.answer.proofs.Steps.{placed, finds, says, parts}
+use Rattle.answer.proofs.Steps.{placed, finds, says, parts, says_of}
 use Rattle.answer.proofs.task.Task.step.Goals as goal
 
 -- a step is kept where its parts are lower
@@ -32,11 +32,12 @@ returns-in_err-said c =
     })
 
 pub returns-clause-lower : goal.returns-clause-lower
-returns-clause-lower c = rw c.then_some.ensures (kept_lower c.args.number c.with_parts-step.result c.is_lower.result c.is_lower.ensures.yes)
+returns-clause-lower c = rw c.then_some.ensures (kept_lower c.args.number _ c.is_lower.result c.is_lower.ensures.yes)
 
 pub returns-clause-reads : goal.returns-clause-reads
 returns-clause-reads c columns qs plans h =
-    let s = c.with_parts-step.ensures qs c.args.number (relation qs c.args.number) c.saturating_sub.ensures
-    (says columns c.args.self.query.now c.args.self.plan.now qs plans c.args.number h c.in_ok-said.said c.in_ok-said.ensures)
-    (parts columns c.args.self.query.now c.args.self.plan.now qs plans c.args.number h c.in_ok-position.position c.in_ok-position.ensures.value) in
-    rw c.then_some.ensures (kept_is qs c.args.number c.with_parts-step.result c.is_lower.result c.is_lower.ensures.no s.0 s.1)
+    let i = c.args.number in
+    let s = says_of qs i c.in_ok-said.said c.in_ok-position.position.left c.saturating_sub.result (relation qs i) c.saturating_sub.ensures
+    (says columns c.args.self.query.now c.args.self.plan.now qs plans i h c.in_ok-said.said c.in_ok-said.ensures)
+    (parts columns c.args.self.query.now c.args.self.plan.now qs plans i h c.in_ok-position.position c.in_ok-position.ensures.value) in
+    rw c.then_some.ensures (kept_is qs i _ c.is_lower.result c.is_lower.ensures.no s.0 s.1)
