@@ -1,5 +1,5 @@
 -- The certain and the possible rows of a query, once all answers are found.
-use Rattle.std.proofs.Common.{◌≡◌, ℕ, zero, suc, ◌+◌, ◌-◌, ◌<◌, Bool, true, false, cond, not, ltb, List, [], ◌∷◌, ◌++◌, length, get_or, replicate, Some, None, filter, Option, Ok, sym, refl, ap, ◌∙◌, subst, ap₂, arith}
+use Rattle.std.proofs.Common.{◌≡◌, ℕ, zero, suc, ◌+◌, ◌-◌, ◌<◌, Bool, true, false, cond, not, ltb, List, [], ◌∷◌, ◌++◌, length, get_or, replicate, Some, None, filter, Option, sym, refl, ap, ◌∙◌, ap₂, arith}
 use Rattle.std.proofs.lemmas.List.{length_push, get_or_push}
 use Rattle.std.proofs.lemmas.Bool.{ltb-false}
 use Rattle.semantics.specs.declared.kind.Column.{Column}
@@ -14,9 +14,6 @@ use Rattle.workspace.specs.declared.block.Block.{Block}
 use Rattle.workspace.specs.Blocks.{block_rows}
 use Rattle.answer.specs.declared.bound.Bound.TheVariants.{Low, High}
 use Rattle.answer.specs.Bounds.{answer_of, takes_out, slot}
-use Rattle.semantics.specs.Views as semantics
-use Rattle.answer.specs.declared.found.Rows.{Rows}
-use Rattle.answer.specs.Answering.{RowsFound}
 use Rattle.answer.specs.Memos.{Sound, Held, TooLong}
 use Rattle.answer.specs.declared.slot.Slot.{Slot}
 use Rattle.answer.specs.Places.{Placed}

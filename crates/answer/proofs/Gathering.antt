@@ -1,8 +1,8 @@
 -- The loop that goes over some rows and puts each into a slot, unless it is there.
-use Rattle.std.proofs.Common.{◌≡◌, ℕ, ◌+◌, ◌<◌, ◌≤◌, List, [], ◌∷◌, ◌++◌, map, length, get_or, take, drop, Some, None, Option, sym, refl, ap, ◌∙◌, subst, arith}
+use Rattle.std.proofs.Common.{◌≡◌, ℕ, ◌+◌, ◌<◌, ◌≤◌, List, [], ◌∷◌, ◌++◌, map, length, get_or, take, drop, Some, None, Option, sym, ap, ◌∙◌, subst, arith}
 use Rattle.std.specs.Borrow.{Bor}
 use Rattle.std.specs.Option.{option_map, unwrap_or}
-use Rattle.std.proofs.lemmas.List.{append_assoc, append-nil, take_all, length-map, get_or-map}
+use Rattle.std.proofs.lemmas.List.{append_assoc, take_all, length-map, get_or-map}
 use Rattle.book.proofs.Tabled.{length_tabled, slice_index_or_tabled}
 use Rattle.semantics.specs.Answers.{without_repeats, picked}
 use Rattle.semantics.specs.Views as semantics
@@ -14,10 +14,9 @@ use Rattle.workspace.specs.declared.block.Block.{Block}
 use Rattle.workspace.specs.Blocks.{block_rows}
 use Rattle.answer.specs.declared.row.Row.{Row}
 use Rattle.answer.specs.declared.slot.Slot.{Slot}
-use Rattle.answer.specs.Places.{Untouched, Apart, Placed, Makes, inserted}
+use Rattle.answer.specs.Places.{Untouched, Placed, Makes, inserted}
 use Rattle.answer.specs.Rows.{row_of}
 use Rattle.answer.specs.Slots.{Same, Fills, Lists, slot_rows}
-use Rattle.answer.proofs.Places.{untouched-same, block_apart}
 use Rattle.answer.proofs.Loops.{placed-after, untouched-after, without-longer, inserts_more, inserts_full, seen_more, seen-rest}
 
 abbrev Rows : Type 0
@@ -69,13 +68,6 @@ module _ (finds : Bor (List Masked) → ℕ → Row → Type 0) (start : Slot) (
     pub same : Same start slot
     pub placed : Placed start.limit start.rows.first start.rows.width start.work.now slot.work.now slot.rows
     pub holds : (given src : Rows) → slot_rows start ≡ without_repeats given → length src ≡ count → Lists finds start src → slot_rows slot ≡ without_repeats (given ++ take i src)
-
-  pub gathering_none : Gathering start 0
-  gathering_none = record {
-    same = record { limit_kept = refl; long = refl };
-    placed = record { begins = refl; few = start.few; wide = refl; untouched = untouched-same start.rows.first start.limit start.work.now };
-    holds = λ given src e l lists. e ∙ ap without_repeats (sym (append-nil given));
-  }
 
   module _ (slot : Slot) (i : ℕ) (inv : Gathering slot i) where
     pub gathering_all : count ≤ i → (given src : Rows) → slot_rows start ≡ without_repeats given → length src ≡ count → Lists finds start src → Fills (without_repeats (given ++ src)) start slot (Some tt)

@@ -1,5 +1,5 @@
 -- Loops that put each row of one block before each row of another.
-use Rattle.std.proofs.Common.{◌≡◌, ℕ, suc, ◌+◌, ◌*◌, ◌<◌, ◌≤◌, List, [], ◌∷◌, ◌++◌, map, length, get_or, take, sym, refl, ap, ◌∙◌, subst, mul-le-mul_right, suc-mul, arith}
+use Rattle.std.proofs.Common.{◌≡◌, ℕ, ◌+◌, ◌*◌, ◌<◌, ◌≤◌, List, [], ◌∷◌, ◌++◌, map, length, get_or, take, ap, ◌∙◌, subst, suc-mul, arith}
 use Rattle.std.specs.List.{flat_map}
 use Rattle.std.proofs.lemmas.List.{append_assoc, append-nil, length-append, length-map, map_more, take_all}
 use Rattle.semantics.specs.Answers.{paired}
@@ -22,14 +22,6 @@ module _ (start : Slot) (right : Block) (row : List semantics.Masked) where
     pub placed : Placed start.limit start.rows.first start.rows.width start.work.now slot.work.now slot.rows
     pub more : slot.rows.count ≡ start.rows.count + i
     pub holds : slot_rows slot ≡ slot_rows start ++ map (λ s. row ++ s) (take i (block_rows start.work.now right))
-
-  pub following_none : Following start 0
-  following_none = record {
-    same = record { limit_kept = refl; long = refl };
-    placed = record { begins = refl; few = start.few; wide = refl; untouched = untouched-same start.rows.first start.limit start.work.now };
-    more = omega arith;
-    holds = sym (append-nil (slot_rows start));
-  }
 
   module _ (slot : Slot) (i : ℕ) (inv : Following slot i) where
     pub following_more : Beside start right → i < right.count → (s : List semantics.Masked) → s ≡ get_or (block_rows slot.work.now right) i []
@@ -67,9 +59,6 @@ length_paired (r ∷ rs) ss =
     let ih = length_paired rs ss in
     let p = suc-mul (length rs) (length ss) in
     omega arith
-
-pub pairs_fit : (i m n : ℕ) → i < m → i * n + n ≤ m * n
-pairs_fit i m n h = omega (arith, mul-le-mul_right {m = suc i} {n = m} n h, suc-mul i n)
 
 module _ (start : Slot) (left right : Block) where
   -- Each of the `i` first rows of the left block, followed by each row of the right one, stands in the slot.

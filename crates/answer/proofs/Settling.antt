@@ -1,7 +1,7 @@
 -- An answer that is found is noted, and what was found before stays.
 use Rattle.std.proofs.Common.{◌≡◌, ℕ, ◌*◌, ◌<◌, ◌≤◌, true, ◌⊎◌, List, [], length, get_or, set, Some, None, Option, sym, refl, ap, ◌∙◌, subst, inl, inr, ⊎_elim, arith}
 use Rattle.std.proofs.lemmas.List.{get_or-set_same, get_or-set_other, get_or_default, length-set}
-use Rattle.std.proofs.lemmas.Bool.{cases_eq, cases_lt}
+use Rattle.std.proofs.lemmas.Bool.{cases_eq}
 use Rattle.semantics.specs.declared.kind.Column.{Column}
 use Rattle.semantics.specs.Queries.{Tree, nodes, kinds_of, well_formed}
 use Rattle.query.specs.declared.plan.Plan.{Plan}
@@ -11,7 +11,6 @@ use Rattle.view.specs.Views.{view_tables, width_in}
 use Rattle.workspace.specs.declared.block.Block.{Block}
 use Rattle.workspace.specs.Blocks.{block_rows}
 use Rattle.answer.specs.declared.bound.Bound.{Bound}
-use Rattle.answer.specs.declared.bound.Bound.TheVariants.{Low, High}
 use Rattle.answer.specs.Bounds.{answer_of, slot}
 use Rattle.answer.specs.Memos.{Sound, Over, Held, Grown, Settled, Brought, Made, TooLong}
 use Rattle.answer.specs.Places.{Makes, InSlot}

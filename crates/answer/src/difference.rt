@@ -17,6 +17,9 @@ impl Slot<'_> {
         ensures placed { Placed self.old.limit self.old.rows.first left.width self.old.work.now self.new.work.now result }
         ensures holds { block_rows self.new.work.now result ≡ filter (λ x. not (some (takes_out bound x) (block_rows self.old.work.now right))) (block_rows self.old.work.now left) }
     {
-        self.keep(left, |work, row| !bound.some_takes_out(work, right, row))
+        self.keep(
+            left,
+            |work, row| !bound.some_takes_out(right.rows(work), row),
+        )
     }
 }

@@ -1,7 +1,7 @@
 ghost use Rattle.std.specs.Prelude.{◌≡◌, map};
 ghost use Rattle.semantics.specs.Lists.{some};
 ghost use Rattle.view.specs.Views.{masked_of};
-ghost use Rattle.workspace.specs.Blocks.{block_rows};
+ghost use Rattle.workspace.specs.Rows.{rows_left};
 ghost use Rattle.answer.specs.Bounds.{takes_out};
 ghost use Rattle.answer.specs.Rows.{row_of};
 
@@ -9,7 +9,7 @@ use crate::bound::Bound;
 use crate::row::Row;
 use rows::compatible;
 use view::Masked;
-use workspace::Block;
+use workspace::Rows;
 
 impl Bound {
     /// Whether a right row takes a left row out of a difference: in the low answer if it may be the
@@ -24,10 +24,10 @@ impl Bound {
         }
     }
 
-    /// Whether some row of a block takes a row out.
-    pub(crate) fn some_takes_out(self, work: &[Masked], block: Block, row: &Row) -> bool
-        ensures { result ≡ some (takes_out self (row_of row.now)) (block_rows work.now block) }
+    /// Whether one of some right rows takes a left row out.
+    pub(crate) fn some_takes_out(self, mut rows: Rows, row: &Row) -> bool
+        ensures { result ≡ some (takes_out self (row_of row.now)) (rows_left rows.entry) }
     {
-        block.rows(work).any(|other| self.takes_out(row, other))
+        rows.any(|other| self.takes_out(row, other))
     }
 }

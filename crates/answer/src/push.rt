@@ -25,6 +25,7 @@ impl Slot<'_> {
     }
 
     /// Puts a row behind the others; there is room for it.
+    // A row comes as a slice of another memory or of a buffer: no type ties its length to the width here.
     pub(crate) fn push(&mut self, row: &[Masked])
         requires few { self.old.rows.count < self.old.limit }
         requires wide { length row.now ≡ self.old.rows.width }

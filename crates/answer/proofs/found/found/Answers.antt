@@ -1,5 +1,4 @@
 use Rattle.std.proofs.Common.{◌≡◌, ◌-◌, ◌<◌, ◌≤◌, length, sym, ap, ◌∙◌, subst, arith}
-use Rattle.std.proofs.lemmas.Result.{err_from_is_err_and}
 use Rattle.std.specs.Prelude.{SomeIff}
 use Rattle.semantics.specs.Queries.{nodes}
 use Rattle.query.proofs.Laying.{nodes-some}
@@ -10,11 +9,6 @@ use Rattle.answer.proofs.Finding.{not_too_long, root_is, certain-stay, possible-
 use Rattle.answer.proofs.Making.{stands, still_stands}
 use Rattle.answer.proofs.Slots.{turned_beside}
 use Rattle.answer.proofs.found.found.Goals as goal
-
-pub returns-in_err-overfull : goal.returns-in_err-overfull
-returns-in_err-overfull c columns q over held =
-    let p = err_from_is_err_and c.from_residual.result c.from_residual.ensures.1 in
-    rw (p.1, p.2) (c.in_err-overfull.ensures.lowest columns q over held)
 
 pub returns-in_err-root : goal.returns-in_err-root
 returns-in_err-root c columns q over held =

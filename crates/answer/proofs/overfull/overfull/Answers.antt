@@ -3,14 +3,8 @@ use Rattle.std.proofs.lemmas.Result.{err_from_is_err_and}
 use Rattle.semantics.specs.Queries.{nodes}
 use Rattle.answer.specs.declared.bound.Bound.TheVariants.{High}
 use Rattle.answer.specs.Memos.{Found, Sound}
-use Rattle.answer.proofs.Limits.{high-few, passed_none, passed-more, passed_stop, passed-all, refused_none}
+use Rattle.answer.proofs.Limits.{high-few, passed-more, passed_stop, passed-all, refused_none}
 use Rattle.answer.proofs.overfull.overfull.Goals as goal
-
-pub loop-number-init : goal.loop-number-init
-loop-number-init c = (refl, λ columns q over held. (passed_none c.args.memo.now.slot.limit c.args.task.view.now q, held))
-
-pub evaluate-high-requires : goal.evaluate-high-requires
-evaluate-high-requires c = record { lower = omega (arith, c.loop-number-test.true, c.count-number-end.ensures.few) }
 
 pub returns-in_err-ok_or : goal.returns-in_err-ok_or
 returns-in_err-ok_or c =

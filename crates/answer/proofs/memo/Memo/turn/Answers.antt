@@ -1,4 +1,4 @@
-use Rattle.std.proofs.Common.{rules, ◌+◌, ◌*◌, ◌≤◌, length, arith}
+use Rattle.std.proofs.Common.{◌+◌, ◌*◌, ◌≤◌, length, arith}
 use Rattle.answer.proofs.Slots.{slot-low, slot-within, slot-room}
 use Rattle.answer.proofs.memo.Memo.turn.Goals as goal
 

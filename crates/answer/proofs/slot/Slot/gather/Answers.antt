@@ -1,8 +1,5 @@
-use Rattle.answer.proofs.Gathering.{gathering_none, gathering_more, gathering_full, gathering_all}
+use Rattle.answer.proofs.Gathering.{gathering_more, gathering_full, gathering_all}
 use Rattle.answer.proofs.slot.Slot.gather.Goals as goal
-
-pub loop-number-init : goal.loop-number-init
-loop-number-init g c = gathering_none (goal.F-post g c.args.row) c.args.self.now c.args.count
 
 pub loop-number-preserved : goal.loop-number-preserved
 loop-number-preserved g c =

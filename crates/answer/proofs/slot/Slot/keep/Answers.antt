@@ -12,12 +12,6 @@ loop-number-init g c = record {
   holds = λ passes tells. rows_none c.start.new.self.work.now c.start.new.self.rows c.start.ensures.none;
 }
 
-pub push-requires-clause-wide : goal.push-requires-clause-wide
-push-requires-clause-wide g c =
-    let inv = c.loop-number.invariant in
-    let w = c.copy-row.ensures.wide c.loop-number-test.true (omega (arith, inv.placed.untouched.long, c.requires.beside.within)) in
-    omega (arith, c.cells.ensures.wide, w, inv.placed.wide)
-
 pub loop-number-preserved : goal.loop-number-preserved
 loop-number-preserved g c =
     elim c.if-passes.branch [

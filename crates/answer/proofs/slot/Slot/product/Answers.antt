@@ -1,8 +1,7 @@
 use Rattle.std.proofs.Common.{arith}
 use Rattle.workspace.proofs.Reading.{rows_none}
 use Rattle.answer.specs.Rows.{row_of}
-use Rattle.answer.proofs.Filtering.{beside_kept}
-use Rattle.answer.proofs.Pairing.{pairs_fit, too_many_lem, pairing_more, pairing_all}
+use Rattle.answer.proofs.Pairing.{too_many_lem, pairing_more, pairing_all}
 use Rattle.answer.proofs.slot.Slot.product.Goals as goal
 use Rattle.answer.proofs.slot.Slot.product.Goals.{then-width-gt8-via-then-width-gt8, then-width-gt8-via-else-width-gt8+then-left-right}
 
@@ -20,16 +19,6 @@ loop-number-init c = record {
   many = omega (arith, c.start.ensures.none);
   holds = rows_none c.start.new.self.work.now c.start.new.self.rows c.start.ensures.none;
 }
-
-pub pair-requires : goal.pair-requires
-pair-requires c =
-    let inv = c.loop-number.invariant in
-    let w = c.copy-row.ensures.wide c.loop-number-test.true (omega (arith, inv.placed.untouched.long, c.requires.beside.0.within)) in
-    record {
-      beside = beside_kept inv.same inv.placed c.requires.beside.1;
-      wide = omega (arith, w, inv.placed.wide);
-      few = omega (arith, pairs_fit c.loop-number.number c.args.left.count c.args.right.count c.loop-number-test.true, c.if-left-right.false, inv.many, inv.same.limit_kept);
-    }
 
 pub loop-number-preserved : goal.loop-number-preserved
 loop-number-preserved c =

@@ -25,9 +25,9 @@ gather-requires-2-clause-wide c cells i row u h post =
     let left = block_rows s.work.now c.args.left in
     let right = block_rows s.work.now c.args.right in
     let m =
-        fills_after c.start.ensures.same c.start.ensures.placed mid (without_repeats left) (Some tt)
-        (c.in_ok-gather.ensures.fills [] left (rows_none c.start.new.self.work.now c.start.new.self.rows c.start.ensures.none) (length_rows s.work.now c.args.left)
-        (λ cells i row u h post. rw (sym (rows_still c.start.ensures.same c.start.ensures.placed c.requires.beside.0 cells.now u)) (search rules))) in
+    fills_after c.start.ensures.same c.start.ensures.placed mid (without_repeats left) (Some tt)
+    (c.in_ok-gather.ensures.fills [] left (rows_none c.start.new.self.work.now c.start.new.self.rows c.start.ensures.none) (length_rows s.work.now c.args.left)
+    (λ cells i row u h post. rw (sym (rows_still c.start.ensures.same c.start.ensures.placed c.requires.beside.0 cells.now u)) (search rules))) in
     let same = same_after c.start.ensures.same c.in_ok-gather.ensures.same in
     let within : 8 * (c.args.right.first + c.args.right.count) ≤ length cells.now = omega (arith, u.long, m.0.untouched.long, c.requires.beside.1.within) in
     let e : length (row_of row) ≡ c.args.right.width = search rules in
@@ -40,9 +40,9 @@ returns-in_err-gather-2-clause-makes c wide =
     let left = block_rows s.work.now c.args.left in
     let right = block_rows s.work.now c.args.right in
     let m =
-        fills_after c.start.ensures.same c.start.ensures.placed mid (without_repeats left) (Some tt)
-        (c.in_ok-gather.ensures.fills [] left (rows_none c.start.new.self.work.now c.start.new.self.rows c.start.ensures.none) (length_rows s.work.now c.args.left)
-        (λ cells i row u h post. rw (sym (rows_still c.start.ensures.same c.start.ensures.placed c.requires.beside.0 cells.now u)) (search rules))) in
+    fills_after c.start.ensures.same c.start.ensures.placed mid (without_repeats left) (Some tt)
+    (c.in_ok-gather.ensures.fills [] left (rows_none c.start.new.self.work.now c.start.new.self.rows c.start.ensures.none) (length_rows s.work.now c.args.left)
+    (λ cells i row u h post. rw (sym (rows_still c.start.ensures.same c.start.ensures.placed c.requires.beside.0 cells.now u)) (search rules))) in
     let same = same_after c.start.ensures.same c.in_ok-gather.ensures.same in
     rw c.from_residual-in_err-gather-2.ensures
     (fills_after same m.0 c.gather-2.new.self (without_repeats (left ++ right)) None
@@ -56,9 +56,9 @@ returns-clause-makes c wide =
     let left = block_rows s.work.now c.args.left in
     let right = block_rows s.work.now c.args.right in
     let m =
-        fills_after c.start.ensures.same c.start.ensures.placed mid (without_repeats left) (Some tt)
-        (c.in_ok-gather.ensures.fills [] left (rows_none c.start.new.self.work.now c.start.new.self.rows c.start.ensures.none) (length_rows s.work.now c.args.left)
-        (λ cells i row u h post. rw (sym (rows_still c.start.ensures.same c.start.ensures.placed c.requires.beside.0 cells.now u)) (search rules))) in
+    fills_after c.start.ensures.same c.start.ensures.placed mid (without_repeats left) (Some tt)
+    (c.in_ok-gather.ensures.fills [] left (rows_none c.start.new.self.work.now c.start.new.self.rows c.start.ensures.none) (length_rows s.work.now c.args.left)
+    (λ cells i row u h post. rw (sym (rows_still c.start.ensures.same c.start.ensures.placed c.requires.beside.0 cells.now u)) (search rules))) in
     let same = same_after c.start.ensures.same c.in_ok-gather.ensures.same in
     fills_after same m.0 c.gather-2.new.self (without_repeats (left ++ right)) (Some tt)
     (c.in_ok-gather-2.ensures.fills left right m.1 (length_rows s.work.now c.args.right)

@@ -3,7 +3,7 @@ use Rattle.semantics.specs.declared.refusal.Refusal.TheVariants.{WrongForm}
 use Rattle.semantics.specs.Queries.{table, nodes}
 use Rattle.answer.specs.Bounds.{slot}
 use Rattle.answer.specs.Memos.{Sound}
-use Rattle.answer.specs.Steps.{relation, StepOf, Lower}
+use Rattle.answer.specs.Steps.{relation}
 use Rattle.answer.proofs.Making.{stands, still_stands, table-made, select-made, project-made, product-made, union-made, difference-made}
 use Rattle.answer.proofs.Relations.{relation-proper}
 use Rattle.answer.proofs.Settling.{sound_more, brought, settled, found_within}
