@@ -15,6 +15,7 @@ use Rattle.semantics.proofs.LowHigh.{low-high, certain_or_possible}
 use Rattle.semantics.proofs.Member.{mem_map_back}
 use Rattle.semantics.proofs.Refinement.{low-changed, high-changed}
 use Rattle.laws.specs.Answers.{LowRowsAreHighRows, OfValues, ValuesGiveOneAnswer, Sharpened, FaithfulChangesSharpen, AnswersBoundTheUnmasked, WiderPoliciesSharpen, IndistinguishableBooksGiveSameAnswers}
+use Rattle.laws.specs.Valuations.{LawfulValuationsAreFaithful}
 use Rattle.laws.proofs.EqualViews.{indistinguishable_equal}
 use Rattle.laws.proofs.Translation.{translation_gives}
 
@@ -39,6 +40,9 @@ faithful_sharpens tables change faithful q = record {
   low_rows = λ row m. low-changed tables change faithful q m;
   high_rows = λ row m. high-changed tables change faithful q m;
 }
+
+pub lawful_faithful : LawfulValuationsAreFaithful
+lawful_faithful = lawful-faithful
 
 -- a view with its values in place has values alone
 unmasked-values : (tables : List (List (List Masked))) (x : Valuation) → OfValues (changed (unmasked x) tables)

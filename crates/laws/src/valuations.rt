@@ -6,6 +6,7 @@ pub fn own_values_are_a_lawful_valuation()
 {}
 
 /// A lawful valuation keeps values, and keeps the pseudonyms of a domain apart.
+#[tactic(auto, using(crate::proofs::Bounded::lawful_faithful))]
 pub fn lawful_valuations_are_faithful()
     ensures { LawfulValuationsAreFaithful }
 {}

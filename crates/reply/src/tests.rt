@@ -1,3 +1,4 @@
+use crate::kinds::{CellKind, RecordKind, UnknownKind};
 use crate::refusal::refusal_record;
 use crate::reply::write_reply;
 use cells::{Cell, Prefix};
@@ -105,4 +106,12 @@ fn record_of_a_refusal(rt: HostRuntime) {
         refusal_record(Refusal::WrongForm(3)),
         [0x02, 0x00, 0x23, 0x00, 0x0f, 0x03]
     );
+}
+
+#[test]
+fn kinds_by_their_numbers(rt: HostRuntime) {
+    assert_eq!(rt; RecordKind::try_from(0x21), Ok(RecordKind::Certain));
+    assert_eq!(rt; RecordKind::try_from(0x24), Err(UnknownKind));
+    assert_eq!(rt; CellKind::try_from(4), Ok(CellKind::Pseudonym));
+    assert_eq!(rt; CellKind::try_from(0), Err(UnknownKind));
 }

@@ -1,7 +1,6 @@
 -- Whether no two cells of one group differ.
 use Rattle.std.proofs.Common.{◌≡◌, ℕ, Bool, true, false, not, ◌&&◌, eqb, List, [], ◌∷◌, ◌++◌, map, length, sym, refl, ap, ◌∙◌, subst, ap₂, arith}
 use Rattle.std.specs.List.{list_all}
-use Rattle.std.proofs.lemmas.List.{map-append}
 use Rattle.std.proofs.lemmas.List.Folds.{list_all-map}
 use Rattle.std.proofs.lemmas.Bool.{eq-eqb, eqb-true}
 use Rattle.semantics.specs.Compatible.{differ, group_of, compatible}
@@ -12,7 +11,6 @@ use Rattle.semantics.specs.Views.{value, variable, pseudonym}
 use Rattle.semantics.specs.Wider.{same_masked}
 use Rattle.semantics.proofs.Compatible.{differ_self}
 use Rattle.semantics.proofs.Masked.{same-masked, masked_same}
-use Rattle.semantics.proofs.Member.{map_agree}
 use Rattle.semantics.proofs.Values.{same-value, value-self}
 use Rattle.rows.specs.declared.members.Member.{Member}
 use Rattle.rows.specs.Rows.{Grouped, with_group, cell_and_group, agree, all_agree}

@@ -1,9 +1,9 @@
 -- What the columns of two rows alone tell.
-use Rattle.std.proofs.Common.{◌≡◌, ℕ, suc, ◌<◌, ◌≤◌, Bool, true, false, ◌&&◌, ◌||◌, eqb, List, [], ◌∷◌, map, length, get_or, sym, refl, ap, ◌∙◌, subst, ap₂, arith}
+use Rattle.std.proofs.Common.{◌≡◌, ℕ, suc, ◌<◌, ◌≤◌, Bool, true, false, ◌&&◌, ◌||◌, List, [], ◌∷◌, map, length, get_or, sym, refl, ap, ◌∙◌, subst, ap₂, arith}
 use mathlib.Core.List.Memᴰ
 use Rattle.std.specs.List.{list_all, list_any, zip}
 use Rattle.std.proofs.lemmas.List.{length-map, get_or-map}
-use Rattle.std.proofs.lemmas.Bool.{and_parts, and_left, not-false, ne_eqb, both_ways, false≢true}
+use Rattle.std.proofs.lemmas.Bool.{and_parts, not-false, both_ways, false≢true}
 use Rattle.semantics.specs.Compatible.{differ, group_of, compatible}
 use Rattle.semantics.specs.Views as semantics
 use Rattle.semantics.specs.Views.{value, variable, pseudonym}

@@ -1,5 +1,6 @@
 use Rattle.laws.proofs.Joinable.{compatible_in_book}
 use Rattle.laws.proofs.compatible.compatible_in_every_book.Goals as goal
 
+-- Cites the law as a whole: a lemma named on the function is tried on the law's parts.
 pub returns : goal.returns
 returns c = compatible_in_book
