@@ -61,16 +61,13 @@ fn each_sort_of_cell(rt: HostRuntime) -> Result<(), Fail> {
 /// The rows (47, 1, 3100) and (variable 0.1.0, 2, 2750) at the rows 1 and 2 of a workspace.
 fn two_rows() -> Result<[Masked; 24], Refusal> {
     let mut work = [number(0); 24];
-    work[8] = prefix(b"47")?;
-    work[9] = number(1);
-    work[10] = number(3100);
-    work[16] = Masked::Variable {
+    work[8..11].copy_from_slice(&[prefix(b"47")?, number(1), number(3100)]);
+    let variable = Masked::Variable {
         table: 0,
         row: 1,
         column: 0,
     };
-    work[17] = number(2);
-    work[18] = number(2750);
+    work[16..19].copy_from_slice(&[variable, number(2), number(2750)]);
     Ok(work)
 }
 
