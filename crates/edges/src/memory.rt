@@ -21,12 +21,17 @@ fn a_row_for_each_32_cells_up_to_256(rt: HostRuntime) {
 }
 
 // The kinds are numbers here, as the rules have them: 1 of a number.
+/// A column of numbers in table 1.
+fn column() -> Result<Draft, Refusal> {
+    let mut draft = Draft::new();
+    draft.declare(1, 1, 0)?;
+    Ok(draft)
+}
+
 /// Stores rows of one number until a store is refused, and says how many were stored and which
 /// refusal ended it.
 fn fill(memory: &mut [Cell]) -> Result<(u32, Option<u8>), Refusal> {
-    let mut draft = Draft::new();
-    draft.declare(1, 1, 0)?;
-    let mut book = draft.open(memory);
+    let mut book = column()?.open(memory);
     for n in 0..1000 {
         if let Err(refusal) = book.store(1, &[Cell::Number(n)]) {
             return Ok((n, Some(refusal.number())));
@@ -55,9 +60,7 @@ fn only(memory: &[Cell], place: usize, number: u32) -> bool {
 
 /// Two rows in table 1 of a book in this memory, of which the first is struck.
 fn strike_one(memory: &mut [Cell]) -> Result<(), Refusal> {
-    let mut draft = Draft::new();
-    draft.declare(1, 1, 0)?;
-    let mut book = draft.open(memory);
+    let mut book = column()?.open(memory);
     book.store(1, &[Cell::Number(5)])?;
     book.store(1, &[Cell::Number(6)])?;
     book.strike(1, 0)

@@ -42,16 +42,16 @@ fn draft() -> Result<Draft, Refusal> {
     Ok(draft)
 }
 
-fn store(book: &mut Book<'_>, table: usize, a: u32, b: u32, c: u32) -> Result<(), Refusal> {
-    book.store(table, &[Cell::Number(a), Cell::Number(b), Cell::Number(c)])
+fn store(book: &mut Book<'_>, table: usize, cells: [u32; 3]) -> Result<(), Refusal> {
+    book.store(table, &cells.map(Cell::Number))
 }
 
 fn fill(book: &mut Book<'_>) -> Result<(), Refusal> {
-    store(book, 0, 10, 20, 5)?;
-    store(book, 0, 11, 20, 5)?;
-    store(book, 0, 10, 21, 6)?;
-    store(book, 2, 21, 30, 11)?;
-    store(book, 2, 22, 30, 12)
+    store(book, 0, [10, 20, 5])?;
+    store(book, 0, [11, 20, 5])?;
+    store(book, 0, [10, 21, 6])?;
+    store(book, 2, [21, 30, 11])?;
+    store(book, 2, [22, 30, 12])
 }
 
 /// What the broker sees of a cell, where the view has one.
