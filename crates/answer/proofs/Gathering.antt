@@ -12,11 +12,13 @@ use Rattle.view.specs.Views.{masked_of, masked_at, row_in, table_in, view_tables
 use Rattle.view.proofs.Memory.{row-known, width-le}
 use Rattle.workspace.specs.declared.block.Block.{Block}
 use Rattle.workspace.specs.Blocks.{block_rows}
+use Rattle.workspace.proofs.Reading.{length_rows, rows_none}
 use Rattle.answer.specs.declared.row.Row.{Row}
 use Rattle.answer.specs.declared.slot.Slot.{Slot}
 use Rattle.answer.specs.Places.{Untouched, Placed, Makes, inserted}
 use Rattle.answer.specs.Rows.{row_of}
-use Rattle.answer.specs.Slots.{Same, Fills, Lists, slot_rows}
+use Rattle.answer.specs.Slots.{Same, Beside, Fills, Lists, slot_rows}
+use Rattle.answer.proofs.Filtering.{rows_still}
 use Rattle.answer.proofs.Loops.{placed-after, untouched-after, without-longer, inserts_more, inserts_full, seen_more, seen-rest}
 
 abbrev Rows : Type 0
@@ -120,3 +122,13 @@ pub picked_at : {rows there : Rows} → there ≡ rows → (columns : List ℕ) 
 picked_at {rows} {there} e columns i h =
     let m = length-map rows (picked columns) in
     ap (λ l. picked columns (get_or l i [])) e ∙ sym (get_or-map (picked columns) rows i [] [] (omega arith))
+
+-- the rows of a block, gathered into a slot that has begun anew
+pub gathered_first : (finds : Bor (List Masked) → ℕ → Row → Type 0) (start slot filled : Slot) {w : ℕ} (b : Block) → ((given rows : Rows) → slot_rows slot ≡ without_repeats given → length rows ≡ b.count → Lists finds slot rows → Fills (without_repeats (given ++ rows)) slot filled (Some tt))
+    → Same start slot → Placed start.limit start.rows.first w start.work.now slot.work.now slot.rows → slot.rows.count ≡ 0 → Beside start b
+    → ((cells : Bor (List Masked)) (i : ℕ) (row : Row) → finds cells i row → row_of row ≡ get_or (block_rows cells.now b) i [])
+    → Makes start.limit start.rows.first w (without_repeats (block_rows start.work.now b)) start.work.now filled.work.now (Some filled.rows)
+gathered_first finds start slot filled b fills same placed none beside copies =
+    fills_after same placed filled (without_repeats (block_rows start.work.now b)) (Some tt)
+    (fills [] (block_rows start.work.now b) (rows_none slot.work.now slot.rows none) (length_rows start.work.now b)
+    (λ cells i row u h post. copies cells i row post ∙ ap (λ rows. get_or rows i []) (rows_still same placed beside cells.now u)))

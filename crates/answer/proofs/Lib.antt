@@ -1,7 +1,7 @@
 pub mod Places
 pub mod Loops
-pub mod Gathering
 pub mod Filtering
+pub mod Gathering
 pub mod Pairing
 pub mod Steps
 pub mod Slots
