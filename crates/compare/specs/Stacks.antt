@@ -26,13 +26,6 @@ abbrev pub under : List semantics.Truth → List semantics.Truth
 under [] = []
 under (t ∷ ts) = ts
 
--- The stack once the two truths on top, the upper one second, are replaced by what joins them.
-abbrev pub Joined : (Truth → Truth → Truth → Type 0) → List semantics.Truth → List semantics.Truth → Type 0
-Joined joins before after =
-    (left : Truth) × (right : Truth) × (truth : Truth)
-    × (truth_of left ≡ top (under before)) × (truth_of right ≡ top before) × joins left right truth
-    × (after ≡ pushed (truth_of truth) (under (under before)))
-
 -- The stack after a term on a row: it takes its parts from the top, the right one first.
 abbrev pub stepped : Term → List Masked → List semantics.Truth → List semantics.Truth
 stepped (comparing k) row ts = pushed (comparison_truth k row) ts

@@ -1,7 +1,7 @@
 ghost use Rattle.std.specs.Prelude.{◌≡◌, [], map};
 ghost use Rattle.query.specs.Terms.{term_of};
 ghost use Rattle.view.specs.Views.{masked_of};
-ghost use Rattle.compare.specs.Stacks.{stack_of, pushed, top, under, Joined, stepped};
+ghost use Rattle.compare.specs.Stacks.{stack_of, pushed, top, under, stepped};
 ghost use Rattle.compare.specs.Truths.{truth_of};
 
 use crate::comparing::{compare, compare_with};
@@ -38,36 +38,30 @@ impl Truths {
         self.list.pop().unwrap_or(Truth::Unknown)
     }
 
-    /// Takes the two top truths off, the right one first, and puts what joins them in their place.
-    fn join<F: FnOnce(Truth, Truth) -> Truth>(&mut self, joined: F)
-        requires { F.IsAlwaysCallable joined }
-        ensures { Joined (F.post joined) (stack_of self.old) (stack_of self.new) }
-    {
-        let right = self.pop();
-        let left = self.pop();
-        self.push(joined(left, right));
-    }
-
     /// Takes off the truths that a term joins, and puts the truth of the term on a row in their place.
     pub(crate) fn step(&mut self, term: Term<'_>, row: &[Masked])
         ensures { stack_of self.new ≡ stepped (term_of term.entry) (map masked_of row.now) (stack_of self.old) }
     {
-        match term {
+        let truth = match term {
             Term::ByColumn(operator, left, right) => {
-                self.push(compare(operator, &cell_at(row, left), &cell_at(row, right)));
+                compare(operator, &cell_at(row, left), &cell_at(row, right))
             }
             Term::ByNumber(operator, left, number) => {
-                self.push(compare_with(operator, &cell_at(row, left), Plain::Number(number)));
+                compare_with(operator, &cell_at(row, left), Plain::Number(number))
             }
             Term::ByPrefix(operator, left, digits) => {
-                self.push(compare_with(operator, &cell_at(row, left), Plain::Digits(digits)));
+                compare_with(operator, &cell_at(row, left), Plain::Digits(digits))
             }
-            Term::And => self.join(Truth::and),
-            Term::Or => self.join(Truth::or),
-            Term::Not => {
-                let truth = self.pop();
-                self.push(!truth);
+            Term::And => {
+                let right = self.pop();
+                self.pop().and(right)
             }
-        }
+            Term::Or => {
+                let right = self.pop();
+                self.pop().or(right)
+            }
+            Term::Not => !self.pop(),
+        };
+        self.push(truth);
     }
 }
