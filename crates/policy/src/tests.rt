@@ -4,6 +4,7 @@ use crate::filters::Filters;
 use crate::policy::Policy;
 use cells::{Cell, Prefix};
 use semantics::{Consent, Mark, Refusal, Rule, Sign, Test};
+use std::array;
 use std::test::Fail;
 
 /// A rule from which those of the tests differ in some fields.
@@ -164,10 +165,7 @@ fn consents_mark_table_three(rt: HostRuntime) -> Result<(), Fail> {
     let mut consents = Consents::new();
     consents.set(consent(9))?;
     let row = [Cell::Number(9), Cell::Number(4)];
-    let mut marks = [Mark::Hidden; 9];
-    for (column, mark) in marks.iter_mut().enumerate() {
-        *mark = consents.mark(7, 3, &row, column);
-    }
+    let marks: [Mark; 9] = array::from_fn(|column| consents.mark(7, 3, &row, column));
     let none = Mark::Hidden;
     assert_eq!(rt;
         marks,

@@ -5,6 +5,7 @@ ghost use Rattle.std.proofs.lemmas.Grind.{common_steps};
 use crate::sink::Sink;
 
 /// Writes the bytes into a buffer, from its start on.
+// The buffer with `at` beside: a writer that kept only what is left could not say what stands before it.
 #[derive(Drop)]
 pub(crate) struct Writer<'o> {
     pub(crate) out: &'o mut [u8],

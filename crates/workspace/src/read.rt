@@ -23,6 +23,7 @@ impl Block {
         if row >= self.count {
             return &[];
         }
+        // No method for the address: of any row it could overflow, and here the row is one of the block.
         part(work, 8 * (self.first + row), self.width)
     }
 }
