@@ -10,41 +10,23 @@ use crate::draft::Draft;
 use bounded::Bounded;
 use semantics::{Column, Kind, Refusal};
 
-/// The columns of a table, none where there is no such table.
-pub(crate) fn columns_of(tables: &[Columns], table: usize) -> &[Column]
-    ensures { result.now ≡ slice_index_or (columns_in tables.now) table [] }
+/// Whether the other column is of another domain, or of this one's kind.
+fn suits(column: Column, other: Column) -> bool
+    ensures { result ≡ suits column.domain column.kind other }
 {
-    tables.get(table).map_or(&[], |columns| columns.as_slice())
+    other.domain != column.domain || other.kind == column.kind
 }
 
-/// Whether the column is of another domain, or of this kind.
-fn suits(column: Column, kind: Kind, domain: u8) -> bool
-    ensures { result ≡ suits domain kind column }
+/// Whether each of these columns is of another domain, or of this one's kind.
+fn all_suit(column: Column, columns: &Columns) -> bool
+    ensures { result ≡ every (suits column.domain column.kind) (items columns.now) }
 {
-    column.domain != domain || column.kind == kind
-}
-
-/// Whether every column of this domain has this kind.
-fn all_suit(columns: &Columns, kind: Kind, domain: u8) -> bool
-    ensures { result ≡ every (suits domain kind) (items columns.now) }
-{
-    columns
-        .as_slice()
-        .iter()
-        .all(|column| suits(*column, kind, domain))
-}
-
-/// Adds a column to a table that has room.
-fn add_column(tables: &mut [Columns], table: usize, column: Column)
-    requires { (table < length tables.old) × (length (slice_index_or (columns_in tables.old) table []) < 8) }
-    ensures { columns_in tables.new ≡ added (columns_in tables.old) table column }
-{
-    tables[table].push(column).unwrap();
+    columns.as_slice().iter().all(|other| suits(column, *other))
 }
 
 impl Draft {
     /// A draft of four tables without columns.
-    // No Default beside it: `new` is the word of every caller.
+    // No Default beside it: it would say the clause of `new` again, and no generic code asks for one.
     pub fn new() -> Draft
         ensures { columns_in result.tables ≡ blank }
     {
@@ -57,20 +39,18 @@ impl Draft {
         }
     }
 
-    /// Whether every column of this domain, in any table, has this kind.
-    fn agree(&self, kind: Kind, domain: u8) -> bool
-        ensures { result ≡ agree (columns_in self.now.tables) kind domain }
+    /// Whether every column of the column's domain, in any table, has its kind.
+    fn agree(&self, column: Column) -> bool
+        ensures { result ≡ agree (columns_in self.now.tables) column.kind column.domain }
     {
-        self.tables
-            .iter()
-            .all(|columns| all_suit(columns, kind, domain))
+        self.tables.iter().all(|columns| all_suit(column, columns))
     }
 
-    /// Whether the domain takes a column of this kind.
-    fn admits(&self, kind: Kind, domain: u8) -> bool
-        ensures { result ≡ admits (columns_in self.now.tables) kind domain }
+    /// Whether the column's domain takes it.
+    fn admits(&self, column: Column) -> bool
+        ensures { result ≡ admits (columns_in self.now.tables) column.kind column.domain }
     {
-        domain == 0 || (domain < 16 && self.agree(kind, domain))
+        column.domain == 0 || (column.domain < 16 && self.agree(column))
     }
 
     /// The questions of a declaration, and the column that it adds.
@@ -83,10 +63,11 @@ impl Draft {
             return Err(Refusal::TooManyColumns);
         }
         let kind = Kind::try_from(kind)?;
-        if !self.admits(kind, domain) {
+        let column = Column { kind, domain };
+        if !self.admits(column) {
             return Err(Refusal::WrongDomain);
         }
-        Ok(Column { kind, domain })
+        Ok(column)
     }
 
     /// Adds a column that the table has room for and its domain takes.
@@ -94,7 +75,9 @@ impl Draft {
         requires { Takes (columns_in self.old.tables) table column }
         ensures { columns_in self.new.tables ≡ added (columns_in self.old.tables) table column }
     {
-        add_column(&mut self.tables, table, column);
+        // Bound first: the proof of a push into an array's element in `self` does not close.
+        let tables = &mut self.tables;
+        tables[table].push(column).unwrap();
     }
 
     // The kind is a number, since a number that no kind has is one of the refusals.

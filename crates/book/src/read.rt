@@ -4,7 +4,6 @@ ghost use Rattle.cells.specs.Cells.{cell_value};
 ghost use Rattle.book.specs.Books.{book_model, RowAt};
 
 use crate::book::Book;
-use crate::declare::columns_of;
 use crate::slot::Slot;
 use cells::Cell;
 use semantics::Column;
@@ -21,7 +20,8 @@ impl Book<'_> {
     pub fn columns(&self, table: usize) -> &[Column]
         ensures { result.now ≡ columns_of (book_model self.now) table }
     {
-        columns_of(&self.tables, table)
+        let columns = self.tables.get(table);
+        columns.map_or(&[], |columns| columns.as_slice())
     }
 
     /// How many rows a table has, none where there is no such table.

@@ -38,15 +38,16 @@ fn fitting(columns: &[Column], row: &[Cell]) -> Result<(), Refusal>
 
 impl Rows<'_> {
     /// Writes a row in the slot behind the last of a table that has room.
-    fn push(&mut self, at: Slot, row: &[Cell])
-        requires { (at.row ≡ slice_index self.old.counts at.table) × ((at.row < limit_of (length self.old.cells.now)) × (length row.now ≤ 8)) }
-        ensures counts { self.new.counts ≡ slice_set self.old.counts at.table (at.row + 1) }
-        ensures cells { self.new.cells.now ≡ paste self.old.cells.now (row_start at.table at.row) row.now (length row.now) }
+    fn push(&mut self, table: usize, row: &[Cell])
+        requires { (table < 4) × ((slice_index self.old.counts table < limit_of (length self.old.cells.now)) × (length row.now ≤ 8)) }
+        ensures counts { self.new.counts ≡ slice_set self.old.counts table (slice_index self.old.counts table + 1) }
+        ensures cells { self.new.cells.now ≡ paste self.old.cells.now (row_start table (slice_index self.old.counts table)) row.now (length row.now) }
     {
-        let start = at.start();
+        let last = self.counts[table];
+        let start = Slot { table, row: last }.start();
         let end = start + row.len();
         self.cells[start..end].copy_from_slice(row);
-        self.counts[at.table] = at.row + 1;
+        self.counts[table] = last + 1;
     }
 }
 
@@ -71,11 +72,7 @@ impl Book<'_> {
         requires { may_store (book_model self.old) table (map cell_value row.now) ≡ done tt }
         ensures { stored (book_model self.old) table (map cell_value row.now) ≡ done (book_model self.new) }
     {
-        let slot = Slot {
-            table,
-            row: self.rows.counts[table],
-        };
-        self.rows.push(slot, row);
+        self.rows.push(table, row);
     }
 
     /// Appends a row to a table.

@@ -1,4 +1,4 @@
-ghost use Rattle.std.specs.Prelude.{◌≡◌, ◌≤◌, true, length};
+ghost use Rattle.std.specs.Prelude.{◌≡◌, ◌≤◌, true, ◌&&◌, length, nat_le};
 ghost use Rattle.semantics.specs.Lists.{every};
 ghost use Rattle.semantics.specs.Outcomes.{AnswersAs};
 ghost use Rattle.semantics.specs.Values.{is_digit, prefix_from};
@@ -13,6 +13,13 @@ pub fn all_digits(bytes: &[u8]) -> bool
     ensures { result ≡ every is_digit bytes.now }
 {
     bytes.iter().all(|byte| byte.is_ascii_digit())
+}
+
+/// Whether the bytes are the digits of a prefix.
+pub fn is_prefix(bytes: &[u8]) -> bool
+    ensures { result ≡ (nat_le (length bytes.now) 8 && every is_digit bytes.now) }
+{
+    bytes.len() <= 8 && all_digits(bytes)
 }
 
 impl Prefix {
@@ -36,7 +43,7 @@ impl Prefix {
     pub fn from_bytes(bytes: &[u8]) -> Result<Prefix, Refusal>
         ensures { AnswersAs digits_of result (prefix_from bytes.now) }
     {
-        if bytes.len() > 8 || !all_digits(bytes) {
+        if !is_prefix(bytes) {
             return Err(Refusal::NotPrefix);
         }
         Ok(Prefix::padded(bytes))

@@ -7,5 +7,5 @@ mod digits;
 mod prefix;
 
 pub use cell::Cell;
-pub use digits::all_digits;
+pub use digits::{all_digits, is_prefix};
 pub use prefix::Prefix;

@@ -37,7 +37,7 @@ fn entry_mark(entry: Consent, column: usize) -> Mark
 
 impl Consents {
     /// A register without entries.
-    // No Default beside it: `new` is the word of every caller.
+    // No Default beside it: it would say the clause of `new` again, and no generic code asks for one.
     pub fn new() -> Consents
         ensures { entries_of result ≡ [] }
     {

@@ -49,7 +49,7 @@ fn may_test(test: Test) -> bool
 
 impl Filters {
     /// Filters without rules, which hide all.
-    // No Default beside it: `new` is the word of every caller.
+    // No Default beside it: it would say the clause of `new` again, and no generic code asks for one.
     pub fn new() -> Filters
         ensures { rules_of result ≡ [] }
     {

@@ -13,7 +13,7 @@ use book::Book;
 use semantics::Mark;
 
 /// The variable of a position.
-// A function and no From: a position is more than a cell that is masked.
+// No From: the cell at a position may be masked in three ways, and the name says in which.
 fn variable(at: Position) -> Masked
     ensures { result ≡ Variable at.slot.table at.slot.row at.column }
 {

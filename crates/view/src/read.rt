@@ -8,7 +8,7 @@ use book::Slot;
 
 impl View {
     /// The view of nothing: four tables without rows.
-    // No Default beside it: `new` is the word of every caller.
+    // No Default beside it: it would say the clause of `new` again, and no generic code asks for one.
     pub fn new() -> View
         ensures { view_tables result ≡ [] ∷ [] ∷ [] ∷ [] ∷ [] }
     {

@@ -1,13 +1,10 @@
-use Rattle.std.proofs.Common.{sym, refl, ap, arith}
+use Rattle.std.proofs.Common.{sym, ap}
 use Rattle.semantics.specs.Outcomes.{done}
 use Rattle.book.proofs.Next.{store_fits, store_next}
 use Rattle.book.proofs.book.Book.append.Goals as goal
 
-pub invariant_of-slot : goal.invariant_of-slot
-invariant_of-slot c = let k = store_fits c.args.self.now c.args.table c.args.row.now c.requires in record { four = k.0; low = omega arith }
-
 pub push-requires : goal.push-requires
-push-requires c = let k = store_fits c.args.self.now c.args.table c.args.row.now c.requires in (refl, (k.3, k.2))
+push-requires c = let k = store_fits c.args.self.now c.args.table c.args.row.now c.requires in (k.0, (k.3, k.2))
 
 pub invariant_of-self : goal.invariant_of-self
 invariant_of-self c =

@@ -9,7 +9,7 @@ use Rattle.book.proofs.draft.Draft.agree.Goals as goal
 
 pub returns : goal.returns
 returns c =
-    let all_suit = every (suits c.args.domain c.args.kind) in
+    let all_suit = every (suits c.args.column.domain c.args.column.kind) in
     let tables = c.args.self.now.tables in
     all_from_yields_List (λ columns. all_suit (items columns)) _ _ _ c.all.ensures.ran (YieldsList-from_slice tables cc) (λ x b q k. search rules)
     ∙ sym (every_map all_suit items tables)
