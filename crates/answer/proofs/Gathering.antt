@@ -1,7 +1,7 @@
 -- The loop that goes over some rows and puts each into a slot, unless it is there.
 use Rattle.std.proofs.Common.{◌≡◌, ℕ, ◌+◌, ◌<◌, ◌≤◌, List, [], ◌∷◌, ◌++◌, map, length, get_or, take, drop, Some, None, Option, sym, ap, ◌∙◌, subst, arith}
 use Rattle.std.specs.Borrow.{Bor}
-use Rattle.std.specs.Option.{option_map, unwrap_or}
+use Rattle.std.specs.Option.{unwrap_or}
 use Rattle.std.proofs.lemmas.List.{append_assoc, take_all, length-map, get_or-map}
 use Rattle.book.proofs.Tabled.{length_tabled, slice_index_or_tabled}
 use Rattle.semantics.specs.Answers.{without_repeats, picked}
@@ -15,7 +15,7 @@ use Rattle.workspace.specs.Blocks.{block_rows}
 use Rattle.workspace.proofs.Reading.{length_rows, rows_none}
 use Rattle.answer.specs.declared.row.Row.{Row}
 use Rattle.answer.specs.declared.slot.Slot.{Slot}
-use Rattle.answer.specs.Places.{Untouched, Placed, Makes, inserted}
+use Rattle.answer.specs.Places.{Untouched, Placed, Makes, InSlot, inserted}
 use Rattle.answer.specs.Rows.{row_of}
 use Rattle.answer.specs.Slots.{Same, Beside, Fills, Lists, slot_rows}
 use Rattle.answer.proofs.Filtering.{rows_still}
@@ -105,14 +105,14 @@ pub gathered_early : (limit first width : ℕ) (old new : List Masked) (xs ys : 
 gathered_early limit first width old new xs ys m = let l = without-longer xs ys in (omega (arith, m.0), m.1)
 
 -- What a slot is filled with once it has begun anew, or was filled with before.
-pub fills_after : {start mid : Slot} {w : ℕ} → Same start mid → Placed start.limit start.rows.first w start.work.now mid.work.now mid.rows → (new : Slot) (rows : Rows) (r : Option (Unit {0})) → Fills rows mid new r
-    → Makes start.limit start.rows.first w rows start.work.now new.work.now (option_map (λ done. new.rows) r)
-fills_after {start} {mid} {w} same placed new rows (Some done) m =
-    let p = subst (λ n. Makes n mid.rows.first mid.rows.width rows mid.work.now new.work.now (Some new.rows)) same.limit_kept m in
-    (placed-after start.limit start.rows.first w start.work.now mid.work.now new.work.now mid.rows placed new.rows p.0, p.1)
-fills_after {start} {mid} {w} same placed new rows None m =
-    let p = subst (λ n. Makes n mid.rows.first mid.rows.width rows mid.work.now new.work.now None) same.limit_kept m in
-    (p.0, untouched-after start.limit start.rows.first w start.work.now mid.work.now new.work.now mid.rows placed p.1)
+pub makes_after : {start mid : Slot} {w : ℕ} → Same start mid → Placed start.limit start.rows.first w start.work.now mid.work.now mid.rows → (new : List Masked) (rows : Rows) (r : Option Block)
+    → Makes mid.limit mid.rows.first mid.rows.width rows mid.work.now new r → Makes start.limit start.rows.first w rows start.work.now new r
+makes_after {start} {mid} {w} same placed new rows (Some b) m =
+    let p = subst (λ n. Makes n mid.rows.first mid.rows.width rows mid.work.now new (Some b)) same.limit_kept m in
+    (placed-after start.limit start.rows.first w start.work.now mid.work.now new mid.rows placed b p.0, p.1)
+makes_after {start} {mid} {w} same placed new rows None m =
+    let p = subst (λ n. Makes n mid.rows.first mid.rows.width rows mid.work.now new None) same.limit_kept m in
+    (p.0, untouched-after start.limit start.rows.first w start.work.now mid.work.now new mid.rows placed p.1)
 
 pub same_after : {start mid new : Slot} → Same start mid → Same mid new → Same start new
 same_after same more = record { limit_kept = more.limit_kept ∙ same.limit_kept; long = more.long ∙ same.long }
@@ -123,12 +123,19 @@ picked_at {rows} {there} e columns i h =
     let m = length-map rows (picked columns) in
     ap (λ l. picked columns (get_or l i [])) e ∙ sym (get_or-map (picked columns) rows i [] [] (omega arith))
 
+-- what is made stands in its slot
+pub makes_within : (limit first w : ℕ) (rows : Rows) (old new : List Masked) (r : Option Block) → Makes limit first w rows old new r → InSlot limit first r
+makes_within limit first w rows old new (Some b) m = (m.0.begins, m.0.few)
+makes_within limit first w rows old new None m = tt
+
 -- the rows of a block, gathered into a slot that has begun anew
-pub gathered_first : (finds : Bor (List Masked) → ℕ → Row → Type 0) (start slot filled : Slot) {w : ℕ} (b : Block) → ((given rows : Rows) → slot_rows slot ≡ without_repeats given → length rows ≡ b.count → Lists finds slot rows → Fills (without_repeats (given ++ rows)) slot filled (Some tt))
+pub gathered_first : (finds : Bor (List Masked) → ℕ → Row → Type 0) (start slot filled : Slot) {w : ℕ} (b : Block) {found : Block} → found ≡ filled.rows
+    → ((given rows : Rows) → slot_rows slot ≡ without_repeats given → length rows ≡ b.count → Lists finds slot rows → Makes slot.limit slot.rows.first slot.rows.width (without_repeats (given ++ rows)) slot.work.now filled.work.now (Some found))
     → Same start slot → Placed start.limit start.rows.first w start.work.now slot.work.now slot.rows → slot.rows.count ≡ 0 → Beside start b
     → ((cells : Bor (List Masked)) (i : ℕ) (row : Row) → finds cells i row → row_of row ≡ get_or (block_rows cells.now b) i [])
     → Makes start.limit start.rows.first w (without_repeats (block_rows start.work.now b)) start.work.now filled.work.now (Some filled.rows)
-gathered_first finds start slot filled b fills same placed none beside copies =
-    fills_after same placed filled (without_repeats (block_rows start.work.now b)) (Some tt)
+gathered_first finds start slot filled {w} b {found} stands fills same placed none beside copies =
+    subst (λ block. Makes start.limit start.rows.first w (without_repeats (block_rows start.work.now b)) start.work.now filled.work.now (Some block)) stands
+    (makes_after same placed filled.work.now (without_repeats (block_rows start.work.now b)) (Some found)
     (fills [] (block_rows start.work.now b) (rows_none slot.work.now slot.rows none) (length_rows start.work.now b)
-    (λ cells i row u h post. copies cells i row post ∙ ap (λ rows. get_or rows i []) (rows_still same placed beside cells.now u)))
+    (λ cells i row u h post. copies cells i row post ∙ ap (λ rows. get_or rows i []) (rows_still same placed beside cells.now u))))

@@ -24,9 +24,7 @@ impl Row {
         requires { length cells.now ≤ 8 }
         ensures { row_of result ≡ map masked_of cells.now }
     {
-        let mut row = Row::empty();
-        row.cells.extend(cells).unwrap();
-        row
+        Row::empty().joined(cells)
     }
 
     /// A copy of a row of a block, without cells where the block has no row of this number.

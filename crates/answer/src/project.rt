@@ -19,7 +19,6 @@ impl Slot<'_> {
         self.start(columns.len());
         self.gather(from.count, |work, number| {
             Row::picked(from.row(work, number), columns)
-        })?;
-        Some(self.rows)
+        })
     }
 }

@@ -25,7 +25,6 @@ impl Slot<'_> {
         ensures makes { Makes self.old.limit self.old.rows.first (width_in view.now table) (without_repeats (slice_index_or (view_tables view.now) table [])) self.old.work.now self.new.work.now result }
     {
         self.start(view.width(table));
-        self.gather(view.row_count(table), |_, number| seen(view, table, number))?;
-        Some(self.rows)
+        self.gather(view.row_count(table), |_, number| seen(view, table, number))
     }
 }

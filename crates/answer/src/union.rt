@@ -22,7 +22,6 @@ impl Slot<'_> {
         }
         self.start(left.width);
         self.gather(left.count, |work, number| Row::at(left, work, number))?;
-        self.gather(right.count, |work, number| Row::at(right, work, number))?;
-        Some(self.rows)
+        self.gather(right.count, |work, number| Row::at(right, work, number))
     }
 }
