@@ -18,7 +18,7 @@ use Rattle.answer.specs.Memos.{Sound, Held, TooLong}
 use Rattle.answer.specs.declared.slot.Slot.{Slot}
 use Rattle.answer.specs.Places.{Placed}
 use Rattle.answer.specs.Slots.{Beside}
-use Rattle.answer.specs.Steps.{relation}
+use Rattle.query.specs.Operations.{relation}
 use Rattle.answer.proofs.Making.{Stands}
 use Rattle.answer.proofs.Places.{block_apart}
 

@@ -3,7 +3,6 @@ pub mod Loops
 pub mod Filtering
 pub mod Gathering
 pub mod Pairing
-pub mod Steps
 pub mod Slots
 pub mod Relations
 pub mod Making

@@ -15,7 +15,7 @@ use Rattle.workspace.proofs.Reading.{length_rows}
 use Rattle.answer.specs.declared.bound.Bound.TheVariants.{High}
 use Rattle.answer.specs.Bounds.{answer_of, slot}
 use Rattle.answer.specs.Memos.{Sound, Settled, TooLong}
-use Rattle.answer.specs.Steps.{relation}
+use Rattle.query.specs.Operations.{relation}
 
 -- an answer that is found has few rows
 pub high-few : (limit : ℕ) (columns : List (List Column)) (v : View) (q : Tree) (i : ℕ) (cells : List Masked) (old new : List (Option Block)) (b : Block)

@@ -19,7 +19,7 @@ use Rattle.answer.specs.Bounds.{answer_of, other, keeps, takes_out, slot}
 use Rattle.answer.specs.Memos.{Sound, Settled}
 use Rattle.answer.specs.declared.slot.Slot.{Slot}
 use Rattle.answer.specs.Places.{Placed, Makes}
-use Rattle.answer.specs.Steps.{relation}
+use Rattle.query.specs.Operations.{relation}
 use Rattle.answer.proofs.Relations.{answer-table, answer-select, answer-project, answer-product, answer-union, answer-difference, product_narrow, union-fitted}
 
 -- the block holds an answer

@@ -23,7 +23,7 @@ use Rattle.view.specs.Views.{masked_of, masked_at, row_in, table_in, view_tables
 use Rattle.answer.specs.declared.bound.Bound.{Bound}
 use Rattle.answer.specs.declared.bound.Bound.TheVariants.{Low, High}
 use Rattle.answer.specs.Bounds.{answer_of, other, keeps, takes_out}
-use Rattle.answer.specs.Steps.{relation}
+use Rattle.query.specs.Operations.{relation}
 
 -- both answers by one equation
 module _ (tables : List (List (List Masked))) where

@@ -14,7 +14,7 @@ use Rattle.answer.specs.declared.bound.Bound.{Bound}
 use Rattle.answer.specs.Bounds.{answer_of, slot}
 use Rattle.answer.specs.Memos.{Sound, Over, Held, Grown, Settled, Brought, Made, TooLong}
 use Rattle.answer.specs.Places.{Makes, InSlot}
-use Rattle.answer.specs.Steps.{relation}
+use Rattle.query.specs.Operations.{relation}
 use Rattle.answer.proofs.Places.{block_apart}
 use Rattle.answer.proofs.Relations.{high-longest}
 use Rattle.answer.proofs.Slots.{slot_same, slot-low, slots_apart}

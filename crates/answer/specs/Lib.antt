@@ -3,6 +3,5 @@ pub mod Rows
 pub mod Places
 pub mod Selecting
 pub mod Slots
-pub mod Steps
 pub mod Memos
 pub mod Answering

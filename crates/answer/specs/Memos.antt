@@ -16,7 +16,7 @@ use Rattle.workspace.specs.Blocks.{block_rows}
 use Rattle.answer.specs.declared.bound.Bound.{Bound}
 use Rattle.answer.specs.Bounds.{answer_of, slot}
 use Rattle.answer.specs.Places.{Makes}
-use Rattle.answer.specs.Steps.{relation}
+use Rattle.query.specs.Operations.{relation}
 
 -- The bytes are a well-formed query over these columns, the plan is its plan, and the view's tables have these columns.
 pub record Over (columns : List (List Column)) (view : View) (bytes : List ℕ) (plan : Plan) (q : Tree) : Type 0 where

@@ -8,7 +8,7 @@ ghost use Rattle.answer.specs.Places.{InSlot};
 use crate::bound::Bound;
 use crate::memo::Memo;
 use crate::task::Task;
-use query::Record;
+use query::Operation;
 use workspace::Block;
 
 impl Task<'_, '_, '_> {
@@ -21,38 +21,38 @@ impl Task<'_, '_, '_> {
         ensures within { InSlot memo.old.slot.limit (slot bound number * memo.old.slot.limit) result }
         ensures made { (columns : List (List Column)) (q : Tree) → Over columns self.entry.view.now self.entry.query.now self.entry.plan.now q → number < length (nodes q) → Held columns self.entry.view.now q memo.old.slot.work.now memo.old.found → Made memo.old.slot.limit columns self.entry.view.now q bound number memo.new.slot.work.now memo.old.found memo.new.found result }
     {
-        let step = self.step(number)?;
+        let operation = self.plan.operation(self.query, number)?;
         // an arm for each operation: they take one part or two, and answer a block or an option of it
-        match step.said {
-            Record::Table(table) => {
+        match operation {
+            Operation::Table(table) => {
                 memo.turn(bound, number);
                 memo.slot.table(self.view, usize::from(table))
             }
-            Record::Select(condition) => {
-                let from = self.evaluate(bound, memo, step.left)?;
+            Operation::Select(part, condition) => {
+                let from = self.evaluate(bound, memo, part)?;
                 memo.turn(bound, number);
                 Some(memo.slot.select(bound, from, condition))
             }
-            Record::Project(columns) => {
-                let from = self.evaluate(bound, memo, step.left)?;
+            Operation::Project(part, columns) => {
+                let from = self.evaluate(bound, memo, part)?;
                 memo.turn(bound, number);
                 memo.slot.project(from, columns)
             }
-            Record::Product => {
-                let left = self.evaluate(bound, memo, step.left)?;
-                let right = self.evaluate(bound, memo, step.right)?;
+            Operation::Product(first, second) => {
+                let left = self.evaluate(bound, memo, first)?;
+                let right = self.evaluate(bound, memo, second)?;
                 memo.turn(bound, number);
                 memo.slot.product(left, right)
             }
-            Record::Union => {
-                let left = self.evaluate(bound, memo, step.left)?;
-                let right = self.evaluate(bound, memo, step.right)?;
+            Operation::Union(first, second) => {
+                let left = self.evaluate(bound, memo, first)?;
+                let right = self.evaluate(bound, memo, second)?;
                 memo.turn(bound, number);
                 memo.slot.union(left, right)
             }
-            Record::Difference => {
-                let left = self.evaluate(bound, memo, step.left)?;
-                let right = self.evaluate(bound.other(), memo, step.right)?;
+            Operation::Difference(first, second) => {
+                let left = self.evaluate(bound, memo, first)?;
+                let right = self.evaluate(bound.other(), memo, second)?;
                 memo.turn(bound, number);
                 Some(memo.slot.difference(bound, left, right))
             }

@@ -32,8 +32,7 @@ pub(crate) fn found(task: Task, memo: &mut Memo) -> Result<Rows, Refusal>
     ensures { (columns : List (List Column)) (q : Tree) → Over columns task.entry.view.now task.entry.query.now task.entry.plan.now q → Held columns task.entry.view.now q memo.old.slot.work.now memo.old.found → RowsFound memo.old.slot.limit (view_tables task.entry.view.now) q memo.new.slot.work.now result }
 {
     overfull(task, memo)?;
-    let count = task.plan.count();
-    let root = count.checked_sub(1).ok_or(Refusal::NotOneRelation(0))?;
+    let root = task.plan.root().ok_or(Refusal::NotOneRelation(0))?;
     let low = task.evaluate(Bound::Low, memo, root);
     let certain = low.ok_or(too_many_rows(root))?;
     let high = task.evaluate(Bound::High, memo, root);

@@ -19,7 +19,6 @@ mod respond;
 mod row;
 mod select;
 mod slot;
-mod step;
 mod table;
 mod task;
 mod union;

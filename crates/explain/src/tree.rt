@@ -1,11 +1,11 @@
 //! A query that passed: the kinds of its cells, and its records as a tree. Each record stands above its
 //! parts, the left part above the right.
 
-ghost use Rattle.std.specs.Prelude.{◌+◌, ◌<◌, ◌≤◌, IfSome};
+ghost use Rattle.std.specs.Prelude.{◌+◌, ◌≤◌};
 
 use crate::words::{InWords, condition};
 use anyhow::Context;
-use query::{Plan, Record};
+use query::{Operation, Plan};
 
 /// A query, its plan, and where they are shown.
 #[derive(Clone, Copy)]
@@ -20,8 +20,7 @@ impl Tree<'_> {
     fn head(&self) -> anyhow::Result<()> {
         let rt = self.rt;
         let count = self.plan.count();
-        let kinds = self.plan.kinds_of(count.saturating_sub(1));
-        let kinds = kinds.context("a query without records")?;
+        let kinds = self.plan.kinds().context("a query without records")?;
         print!(rt; "A query of {count} records. The cells of its rows:")?;
         for kind in kinds.listed() {
             let name = InWords(*kind);
@@ -32,14 +31,14 @@ impl Tree<'_> {
     }
 
     /// A record, further to the right the deeper it is.
-    fn line(&self, number: usize, said: Record<'_>, depth: usize) -> anyhow::Result<()> {
+    fn line(&self, number: usize, operation: Operation<'_>, depth: usize) -> anyhow::Result<()> {
         let rt = self.rt;
         for _ in 0..depth {
             print!(rt; "    ")?;
         }
-        let name = InWords(said);
+        let name = InWords(operation);
         print!(rt; "{number}: {name}")?;
-        if let Record::Select(body) = said {
+        if let Operation::Select(_, body) = operation {
             let condition = condition(rt.alloc(), body)?;
             print!(rt; " {condition}")?;
         }
@@ -47,28 +46,22 @@ impl Tree<'_> {
         Ok(())
     }
 
-    /// The number of the left or only part of record `number`, which stands before it.
-    fn left(&self, number: usize) -> Option<usize>
-        ensures { IfSome result (λ left. left < number) }
-    {
-        let position = self.plan.position(number)?;
-        Some(position.left).filter(|left| *left < number)
-    }
-
     /// Record `number` and, below it, its parts.
     // By numbers of records and no boxes, as a plan has them: there is no heap below the programs.
     fn below(&self, number: usize, depth: usize) -> anyhow::Result<()>
         requires { number + depth ≤ 15 }
     {
-        let said = self.plan.said(self.query, number);
-        let said = said.context("a record that the plan does not have")?;
-        self.line(number, said, depth)?;
-        match (said, self.left(number)) {
-            (Record::Table(_), _) | (_, None) => Ok(()),
-            (Record::Select(_) | Record::Project(_), Some(left)) => self.below(left, depth + 1),
-            (Record::Product | Record::Union | Record::Difference, Some(left)) => {
+        let operation = self.plan.operation(self.query, number);
+        let operation = operation.context("a record that the plan does not have")?;
+        self.line(number, operation, depth)?;
+        match operation {
+            Operation::Table(_) => Ok(()),
+            Operation::Select(part, _) | Operation::Project(part, _) => self.below(part, depth + 1),
+            Operation::Product(left, right)
+            | Operation::Union(left, right)
+            | Operation::Difference(left, right) => {
                 self.below(left, depth + 1)?;
-                self.below(number - 1, depth + 1)
+                self.below(right, depth + 1)
             }
         }
     }
@@ -76,6 +69,7 @@ impl Tree<'_> {
     /// The whole query, from its last record.
     pub(crate) fn show(&self) -> anyhow::Result<()> {
         self.head()?;
-        self.below(self.plan.count().saturating_sub(1), 0)
+        let root = self.plan.root();
+        self.below(root.context("a query without records")?, 0)
     }
 }

@@ -1,6 +1,6 @@
 //! Records and conditions in words.
 
-use query::{Record, Term, Terms};
+use query::{Operation, Term, Terms};
 use semantics::{Kind, Operator};
 use std::alloc::{AllocError, Global};
 use std::{fmt, str};
@@ -87,18 +87,18 @@ impl fmt::Display for Columns<'_> {
 }
 
 /// A record without its parts, a select without its condition.
-impl fmt::Display for InWords<Record<'_>> {
+impl fmt::Display for InWords<Operation<'_>> {
     fn fmt<W: fmt::Write>(&self, f: &mut fmt::Formatter<W>) -> fmt::Result {
         match self.0 {
-            Record::Table(number) => write!(f, "table {number}"),
-            Record::Select(_) => write!(f, "select"),
-            Record::Project(body) => {
+            Operation::Table(number) => write!(f, "table {number}"),
+            Operation::Select(..) => write!(f, "select"),
+            Operation::Project(_, body) => {
                 let columns = Columns(body);
                 write!(f, "project {columns}")
             }
-            Record::Product => write!(f, "product"),
-            Record::Union => write!(f, "union"),
-            Record::Difference => write!(f, "difference"),
+            Operation::Product(..) => write!(f, "product"),
+            Operation::Union(..) => write!(f, "union"),
+            Operation::Difference(..) => write!(f, "difference"),
         }
     }
 }

@@ -9,3 +9,4 @@ pub mod Leading
 pub mod Asking
 pub mod Laying
 pub mod Checking
+pub mod Operations

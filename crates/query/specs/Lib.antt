@@ -4,3 +4,4 @@ pub mod Terms
 pub mod Saying
 pub mod Kinds
 pub mod Plans
+pub mod Operations

@@ -17,8 +17,7 @@ fn read(query: &[u8]) -> Result<Plan, Refusal> {
 
 /// The kind of a column of a query's relation, if the query passes and has a column of this number.
 fn kind(query: &[u8], column: usize) -> Option<Kind> {
-    let plan = read(query).ok()?;
-    let kinds = plan.kinds_of(plan.count().checked_sub(1)?)?;
+    let kinds = read(query).ok()?.kinds()?;
     kinds.listed().get(column).copied()
 }
 

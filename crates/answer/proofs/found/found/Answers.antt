@@ -1,9 +1,8 @@
-use Rattle.std.proofs.Common.{◌≡◌, ◌-◌, ◌<◌, ◌≤◌, length, sym, ap, ◌∙◌, subst, arith}
-use Rattle.std.specs.Prelude.{SomeIff}
+use Rattle.std.proofs.Common.{◌≡◌, ◌-◌, ◌<◌, length, sym, ap, ◌∙◌, arith}
 use Rattle.semantics.specs.Queries.{nodes}
 use Rattle.query.proofs.Laying.{nodes-some}
 use Rattle.answer.specs.declared.bound.Bound.TheVariants.{Low, High}
-use Rattle.answer.specs.Steps.{relation}
+use Rattle.query.specs.Operations.{relation}
 use Rattle.answer.proofs.Limits.{refused_none}
 use Rattle.answer.proofs.Finding.{not_too_long, root_is, certain-stay, possible-are}
 use Rattle.answer.proofs.Making.{stands, still_stands}
@@ -12,14 +11,14 @@ use Rattle.answer.proofs.found.found.Goals as goal
 
 pub returns-in_err-root : goal.returns-in_err-root
 returns-in_err-root c columns q over held =
-    let none = refused_none c.checked_sub.result _ _ c.in_err-root.ensures.value in
-    let none-less = subst (λ r. SomeIff r (1 ≤ c.count-count.result) (c.count-count.result - 1)) none.0 c.checked_sub.ensures in
+    let none = refused_none c.root.result _ _ c.in_err-root.ensures.value in
+    let none-less = rw none.0 at c.root.ensures.value in
     absurd (none-less (omega (arith, over.planned.counted, nodes-some q)))
 
 pub returns-in_err-certain : goal.returns-in_err-certain
 returns-in_err-certain c columns q over held =
     let none = refused_none c.evaluate-low.result _ _ c.in_err-certain.ensures.value in
-    let r = subst (λ r. SomeIff r (1 ≤ c.count-count.result) (c.count-count.result - 1)) c.in_ok-root.ensures.ok_part c.checked_sub.ensures in
+    let r = rw c.in_ok-root.ensures.ok_part at c.root.ensures.value in
     let i = c.in_ok-overfull.ensures.lowest columns q over held in
     let h : c.in_ok-root.root < length (nodes q) = omega (arith, r.0, r.1, over.planned.counted) in
     absurd (not_too_long c.args.memo.now.slot.limit c.args.task.view.now q c.in_ok-root.root h (sym i.0) (rw (c.overfull.ensures.limit, none.0) at (c.evaluate-low.ensures.found columns q over h i.1)))
@@ -27,7 +26,7 @@ returns-in_err-certain c columns q over held =
 pub returns-in_err-all : goal.returns-in_err-all
 returns-in_err-all c columns q over held =
     let none = refused_none c.evaluate-high.result _ _ c.in_err-all.ensures.value in
-    let r = subst (λ r. SomeIff r (1 ≤ c.count-count.result) (c.count-count.result - 1)) c.in_ok-root.ensures.ok_part c.checked_sub.ensures in
+    let r = rw c.in_ok-root.ensures.ok_part at c.root.ensures.value in
     let i = c.in_ok-overfull.ensures.lowest columns q over held in
     let h : c.in_ok-root.root < length (nodes q) = omega (arith, r.0, r.1, over.planned.counted) in
     let one = rw (c.overfull.ensures.limit, c.in_ok-certain.ensures.ok_part) at (c.evaluate-low.ensures.found columns q over h i.1) in
@@ -35,11 +34,10 @@ returns-in_err-all c columns q over held =
 
 pub difference-possible-requires : goal.difference-possible-requires
 difference-possible-requires c =
-    let r = subst (λ r. SomeIff r (1 ≤ c.count-count.result) (c.count-count.result - 1)) c.in_ok-root.ensures.ok_part c.checked_sub.ensures in
     let root = c.in_ok-root.root in
     let m = c.evaluate-high.new.memo in
     let s = c.turn.new.self.slot in
-    let low : root < 15 = omega (arith, c.count-count.ensures.few, r.1) in
+    let low : root < 15 = rw c.in_ok-root.ensures.ok_part at c.root.ensures.low in
     let other = λ (e : root ≡ c.spare.result). c.spare.ensures.other (sym e) in
     record {
       beside = (
@@ -50,7 +48,7 @@ difference-possible-requires c =
 
 pub returns : goal.returns
 returns c columns q over held =
-    let r = subst (λ r. SomeIff r (1 ≤ c.count-count.result) (c.count-count.result - 1)) c.in_ok-root.ensures.ok_part c.checked_sub.ensures in
+    let r = rw c.in_ok-root.ensures.ok_part at c.root.ensures.value in
     let i = c.in_ok-overfull.ensures.lowest columns q over held in
     let h : c.in_ok-root.root < length (nodes q) = omega (arith, r.0, r.1, over.planned.counted) in
     let one = rw (c.overfull.ensures.limit, c.in_ok-certain.ensures.ok_part) at (c.evaluate-low.ensures.found columns q over h i.1) in
@@ -58,10 +56,10 @@ returns c columns q over held =
     let root = c.in_ok-root.root in
     let m = c.evaluate-high.new.memo in
     let s = c.turn.new.self.slot in
-    let low : root < 15 = omega (arith, c.count-count.ensures.few, r.1) in
+    let low : root < 15 = rw c.in_ok-root.ensures.ok_part at c.root.ensures.low in
     let other = λ (e : root ≡ c.spare.result). c.spare.ensures.other (sym e) in
     let certain = still_stands h c.evaluate-high.ensures.limit c.evaluate-low.new.memo.sound m.sound one two in
     let all = stands h two in
-    let is : relation (nodes q) root ≡ q = ap (relation (nodes q)) r.1 ∙ ap (λ n. relation (nodes q) (n - 1)) (c.count-count.ensures.value ∙ over.planned.counted) ∙ root_is q in
+    let is : relation (nodes q) root ≡ q = ap (relation (nodes q)) r.1 ∙ ap (λ n. relation (nodes q) (n - 1)) over.planned.counted ∙ root_is q in
     let beside = turned_beside m s Low Low c.spare.result root c.turn.ensures.limit c.turn.ensures.first c.turn.ensures.work low other (c.evaluate-high.ensures.limit ∙ c.evaluate-low.ensures.limit) (rw c.in_ok-certain.ensures.ok_part at c.evaluate-low.ensures.within) in
     (i.0, certain-stay s is certain all c.turn.ensures.work c.difference-possible.ensures.placed beside, possible-are s is certain all c.turn.ensures.work c.difference-possible.new.self.work.now c.difference-possible.result c.difference-possible.ensures.holds)

@@ -3,7 +3,7 @@ use Rattle.semantics.specs.declared.refusal.Refusal.TheVariants.{WrongForm}
 use Rattle.semantics.specs.Queries.{table, nodes}
 use Rattle.answer.specs.Bounds.{slot}
 use Rattle.answer.specs.Memos.{Sound}
-use Rattle.answer.specs.Steps.{relation}
+use Rattle.query.specs.Operations.{relation}
 use Rattle.answer.proofs.Making.{stands, still_stands, table-made, select-made, project-made, product-made, union-made, difference-made}
 use Rattle.answer.proofs.Relations.{relation-proper}
 use Rattle.answer.proofs.Settling.{sound_more, brought, settled, found_within}
@@ -28,30 +28,30 @@ pub evaluate-returns-clause-found : goal.evaluate-returns-clause-found
 evaluate-returns-clause-found t c columns q over h held =
     settled c.slot-2.ensures c.requires.lower (subst (λ n. Sound n c.make.new.memo.found) c.make.ensures.limit c.make.new.memo.sound) (c.in_ok-block.ensures.made columns q over h held)
 
-pub make-returns-in_err-step-clause-made : goal.make-returns-in_err-step-clause-made
-make-returns-in_err-step-clause-made t c columns q over h held = absurd (c.in_err-step.ensures.reads columns (nodes q) over.planned h)
+pub make-returns-in_err-operation-clause-made : goal.make-returns-in_err-operation-clause-made
+make-returns-in_err-operation-clause-made t c columns q over h held = absurd (c.in_err-operation.ensures.reads columns (nodes q) over.planned h)
 
 pub make-returns-in-Table-clause-made : goal.make-returns-in-Table-clause-made
 make-returns-in-Table-clause-made t c columns q over h held =
     let i = c.args.number in
-    let so = rw c.in-Table.is at (c.in_ok-step.ensures.reads columns (nodes q) over.planned h) in
+    let so = rw c.in-Table.is at (c.in_ok-operation.ensures.reads columns (nodes q) over.planned h) in
     brought c.args.memo.now.slot.limit c.args.bound i c.table.new.self.work.now c.args.memo.now.found over h c.turn.ensures.found held (λ k there. there) c.table.result
     (table-made columns c.args.self.view.now c.turn.new.self.slot over.wide c.turn.ensures.limit c.turn.ensures.first c.turn.ensures.work c.args.bound (relation (nodes q) i) c.table.new.self.work.now c.from.result c.table.result (so ∙ ap table (sym c.from.ensures)) c.table.ensures.makes)
 
 pub make-select-requires : goal.make-select-requires
 make-select-requires t c =
-    let low = rw c.in-Select.is at c.in_ok-step.ensures.lower in
+    let low = rw c.in-Select.is at c.in_ok-operation.ensures.lower in
     let i = c.args.number in
-    let j = c.in_ok-step.step.left in
+    let j = c.in-Select.part in
     let h : j < i = low in
     record { beside = turned_beside c.evaluate.new.memo c.turn-in-Select.new.self.slot c.args.bound c.args.bound i j c.turn-in-Select.ensures.limit c.turn-in-Select.ensures.first c.turn-in-Select.ensures.work (omega (arith, c.requires.lower)) (λ (e : j ≡ i). omega arith) c.evaluate.ensures.limit c.in_ok-from-in-Select.ensures.within }
 
 pub make-returns-in_ok-from-in-Select-clause-made : goal.make-returns-in_ok-from-in-Select-clause-made
 make-returns-in_ok-from-in-Select-clause-made t c columns q over h held =
-    let low = rw c.in-Select.is at c.in_ok-step.ensures.lower in
+    let low = rw c.in-Select.is at c.in_ok-operation.ensures.lower in
     let i = c.args.number in
-    let so = rw c.in-Select.is at (c.in_ok-step.ensures.reads columns (nodes q) over.planned h) in
-    let g : c.in_ok-step.step.left < length (nodes q) = omega (arith, low) in
+    let so = rw c.in-Select.is at (c.in_ok-operation.ensures.reads columns (nodes q) over.planned h) in
+    let g : c.in-Select.part < length (nodes q) = omega (arith, low) in
     let one = c.in_ok-from-in-Select.ensures.found columns q over g held in
     let l = c.turn-in-Select.ensures.limit ∙ c.evaluate.ensures.limit in
     let f = c.turn-in-Select.ensures.first ∙ ap (λ n. slot c.args.bound i * n) c.evaluate.ensures.limit in
@@ -60,18 +60,18 @@ make-returns-in_ok-from-in-Select-clause-made t c columns q over h held =
 
 pub make-project-requires-clause-beside : goal.make-project-requires-clause-beside
 make-project-requires-clause-beside t c =
-    let low = rw c.in-Project.is at c.in_ok-step.ensures.lower in
+    let low = rw c.in-Project.is at c.in_ok-operation.ensures.lower in
     let i = c.args.number in
-    let j = c.in_ok-step.step.left in
+    let j = c.in-Project.part in
     let h : j < i = low.0 in
     turned_beside c.evaluate-in-Project.new.memo c.turn-in-Project.new.self.slot c.args.bound c.args.bound i j c.turn-in-Project.ensures.limit c.turn-in-Project.ensures.first c.turn-in-Project.ensures.work (omega (arith, c.requires.lower)) (λ (e : j ≡ i). omega arith) c.evaluate-in-Project.ensures.limit c.in_ok-from-in-Project.ensures.within
 
 pub make-returns-in_ok-from-in-Project-clause-made : goal.make-returns-in_ok-from-in-Project-clause-made
 make-returns-in_ok-from-in-Project-clause-made t c columns q over h held =
-    let low = rw c.in-Project.is at c.in_ok-step.ensures.lower in
+    let low = rw c.in-Project.is at c.in_ok-operation.ensures.lower in
     let i = c.args.number in
-    let so = rw c.in-Project.is at (c.in_ok-step.ensures.reads columns (nodes q) over.planned h) in
-    let g : c.in_ok-step.step.left < length (nodes q) = omega (arith, low.0) in
+    let so = rw c.in-Project.is at (c.in_ok-operation.ensures.reads columns (nodes q) over.planned h) in
+    let g : c.in-Project.part < length (nodes q) = omega (arith, low.0) in
     let one = c.in_ok-from-in-Project.ensures.found columns q over g held in
     let l = c.turn-in-Project.ensures.limit ∙ c.evaluate-in-Project.ensures.limit in
     let f = c.turn-in-Project.ensures.first ∙ ap (λ n. slot c.args.bound i * n) c.evaluate-in-Project.ensures.limit in
@@ -80,10 +80,10 @@ make-returns-in_ok-from-in-Project-clause-made t c columns q over h held =
 
 pub make-product-requires : goal.make-product-requires
 make-product-requires t c =
-    let low = rw c.in-Product.is at c.in_ok-step.ensures.lower in
+    let low = rw c.in-Product.is at c.in_ok-operation.ensures.lower in
     let i = c.args.number in
-    let j = c.in_ok-step.step.left in
-    let k = c.in_ok-step.step.right in
+    let j = c.in-Product.first in
+    let k = c.in-Product.second in
     let h : j < i = low.0 in
     let g : k < i = low.1 in
     let m = c.evaluate-in-Product-2.new.memo in
@@ -97,11 +97,11 @@ make-product-requires t c =
 
 pub make-returns-in_ok-right-in-Product-clause-made : goal.make-returns-in_ok-right-in-Product-clause-made
 make-returns-in_ok-right-in-Product-clause-made t c columns q over h held =
-    let low = rw c.in-Product.is at c.in_ok-step.ensures.lower in
+    let low = rw c.in-Product.is at c.in_ok-operation.ensures.lower in
     let i = c.args.number in
-    let so = rw c.in-Product.is at (c.in_ok-step.ensures.reads columns (nodes q) over.planned h) in
-    let gl : c.in_ok-step.step.left < length (nodes q) = omega (arith, low.0) in
-    let gr : c.in_ok-step.step.right < length (nodes q) = omega (arith, low.1) in
+    let so = rw c.in-Product.is at (c.in_ok-operation.ensures.reads columns (nodes q) over.planned h) in
+    let gl : c.in-Product.first < length (nodes q) = omega (arith, low.0) in
+    let gr : c.in-Product.second < length (nodes q) = omega (arith, low.1) in
     let one = c.in_ok-left-in-Product.ensures.found columns q over gl held in
     let two = c.in_ok-right-in-Product.ensures.found columns q over gr one.held in
     let e = c.evaluate-in-Product-2.ensures.limit ∙ c.evaluate-in-Product.ensures.limit in
@@ -113,10 +113,10 @@ make-returns-in_ok-right-in-Product-clause-made t c columns q over h held =
 
 pub make-union-requires : goal.make-union-requires
 make-union-requires t c =
-    let low = rw c.in-Union.is at c.in_ok-step.ensures.lower in
+    let low = rw c.in-Union.is at c.in_ok-operation.ensures.lower in
     let i = c.args.number in
-    let j = c.in_ok-step.step.left in
-    let k = c.in_ok-step.step.right in
+    let j = c.in-Union.first in
+    let k = c.in-Union.second in
     let h : j < i = low.0 in
     let g : k < i = low.1 in
     let m = c.evaluate-in-Union-2.new.memo in
@@ -130,11 +130,11 @@ make-union-requires t c =
 
 pub make-returns-in_ok-right-in-Union-clause-made : goal.make-returns-in_ok-right-in-Union-clause-made
 make-returns-in_ok-right-in-Union-clause-made t c columns q over h held =
-    let low = rw c.in-Union.is at c.in_ok-step.ensures.lower in
+    let low = rw c.in-Union.is at c.in_ok-operation.ensures.lower in
     let i = c.args.number in
-    let so = rw c.in-Union.is at (c.in_ok-step.ensures.reads columns (nodes q) over.planned h) in
-    let gl : c.in_ok-step.step.left < length (nodes q) = omega (arith, low.0) in
-    let gr : c.in_ok-step.step.right < length (nodes q) = omega (arith, low.1) in
+    let so = rw c.in-Union.is at (c.in_ok-operation.ensures.reads columns (nodes q) over.planned h) in
+    let gl : c.in-Union.first < length (nodes q) = omega (arith, low.0) in
+    let gr : c.in-Union.second < length (nodes q) = omega (arith, low.1) in
     let one = c.in_ok-left-in-Union.ensures.found columns q over gl held in
     let two = c.in_ok-right-in-Union.ensures.found columns q over gr one.held in
     let e = c.evaluate-in-Union-2.ensures.limit ∙ c.evaluate-in-Union.ensures.limit in
@@ -146,10 +146,10 @@ make-returns-in_ok-right-in-Union-clause-made t c columns q over h held =
 
 pub make-difference-requires : goal.make-difference-requires
 make-difference-requires t c =
-    let low = rw c.in-Difference.is at c.in_ok-step.ensures.lower in
+    let low = rw c.in-Difference.is at c.in_ok-operation.ensures.lower in
     let i = c.args.number in
-    let j = c.in_ok-step.step.left in
-    let k = c.in_ok-step.step.right in
+    let j = c.in-Difference.first in
+    let k = c.in-Difference.second in
     let h : j < i = low.0 in
     let g : k < i = low.1 in
     let m = c.evaluate-in-Difference-2.new.memo in
@@ -163,11 +163,11 @@ make-difference-requires t c =
 
 pub make-returns-in_ok-right-in-Difference-clause-made : goal.make-returns-in_ok-right-in-Difference-clause-made
 make-returns-in_ok-right-in-Difference-clause-made t c columns q over h held =
-    let low = rw c.in-Difference.is at c.in_ok-step.ensures.lower in
+    let low = rw c.in-Difference.is at c.in_ok-operation.ensures.lower in
     let i = c.args.number in
-    let so = rw c.in-Difference.is at (c.in_ok-step.ensures.reads columns (nodes q) over.planned h) in
-    let gl : c.in_ok-step.step.left < length (nodes q) = omega (arith, low.0) in
-    let gr : c.in_ok-step.step.right < length (nodes q) = omega (arith, low.1) in
+    let so = rw c.in-Difference.is at (c.in_ok-operation.ensures.reads columns (nodes q) over.planned h) in
+    let gl : c.in-Difference.first < length (nodes q) = omega (arith, low.0) in
+    let gr : c.in-Difference.second < length (nodes q) = omega (arith, low.1) in
     let one = c.in_ok-left-in-Difference.ensures.found columns q over gl held in
     let two = c.in_ok-right-in-Difference.ensures.found columns q over gr one.held in
     let e = c.evaluate-in-Difference-2.ensures.limit ∙ c.evaluate-in-Difference.ensures.limit in

@@ -1,4 +1,4 @@
--- The steps of a plan are those of its relations.
+-- The records of a plan with their parts are those of its relations.
 use Rattle.std.proofs.Common.{◌≡◌, ℕ, ◌-◌, ◌<◌, ◌≤◌, List, length, get_or, Some, None, sym, ap, ◌∙◌, subst, ⊎_elim, arith}
 use Rattle.std.proofs.lemmas.List.{length-map}
 use Rattle.std.proofs.lemmas.Option.{slice_get_cases, slice_get-map}
@@ -19,8 +19,7 @@ use Rattle.query.specs.Saying.{First, Says}
 use Rattle.query.proofs.Checking.{said_here}
 use Rattle.query.proofs.Widths.{got_none}
 use Rattle.query.specs.declared.record.Record.TheVariants.{Table, Select, Project, Product, Union, Difference}
-use Rattle.answer.specs.Steps as steps
-use Rattle.answer.specs.Steps.{relation, Below}
+use Rattle.query.specs.Operations.{relation, operation_of, OperationOf, Lower}
 
 module _ (columns : List (List Column)) (bytes : List ℕ) (plan : Plan) (qs : List Tree) (plans : Plans columns bytes plan qs) (i : ℕ) (h : i < length qs) where
   -- what is read at the record's place
@@ -106,7 +105,7 @@ module _ (qs : List Tree) (i left : ℕ) where
   is-difference (difference q r) e p = let a = p.1 in let b = p.3 in (cc, p.0, omega (arith, p.2))
 
 -- A record with its parts stands for its tree.
-pub says_of : (qs : List Tree) (i : ℕ) (said : Record) (l r : ℕ) (q : Tree) → r ≡ i - 1 → Says i said (record_of q) → Parted qs i l q → steps.Says qs i said l r q × Below i said l r
+pub says_of : (qs : List Tree) (i : ℕ) (said : Record) (l r : ℕ) (q : Tree) → r ≡ i - 1 → Says i said (record_of q) → Parted qs i l q → OperationOf qs i (operation_of said l r) q × Lower i (operation_of said l r)
 says_of qs i (Table t) l r q e s p = (is-table qs i l q t s, tt)
 says_of qs i (Select condition) l r q e s p = let k = is-select qs i l q s.0 s.2 p in ((s.0, s.1, k.0), k.1)
 says_of qs i (Project columns) l r q e s p = let k = is-project qs i l q columns.now s.0 p in (k.0, (k.1, s.1))
