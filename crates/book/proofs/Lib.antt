@@ -1,5 +1,6 @@
 pub mod Listing
 pub mod Tabled
+pub mod Walking
 pub mod Memory
 pub mod Cleaning
 pub mod Storing

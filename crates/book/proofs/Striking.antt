@@ -1,9 +1,8 @@
 -- The questions of a strike, the rows that move up, and the book after it.
-use Rattle.std.proofs.Common.{◌≡◌, ℕ, ◌+◌, ◌-◌, ◌<◌, ◌≤◌, ◌≢◌, ◌⊎◌, List, [], length, get_or, set, replicate, sym, ap, ◌∙◌, subst, inl, inr, ⊎_elim, arith}
+use Rattle.std.proofs.Common.{◌≡◌, ℕ, ◌+◌, ◌<◌, ◌≤◌, ◌≢◌, ◌⊎◌, List, [], length, get_or, set, replicate, sym, ap, ◌∙◌, inl, inr, ⊎_elim, arith}
 use lib.Seq.{paste}
 use Rattle.std.specs.List.{remove}
 use Rattle.std.proofs.lemmas.List.{get_or-set_same, get_or-set_other}
-use Rattle.std.proofs.lemmas.Bool.{cases_eq}
 use Rattle.std.proofs.lemmas.Bool.Decides.{nat_tests}
 use Rattle.semantics.specs.declared.kind.Column.{Column}
 use Rattle.semantics.specs.declared.refusal.Refusal.TheVariants.{NoRow}
@@ -11,8 +10,8 @@ use Rattle.semantics.specs.Books.{rows_of, with_rows, limit_of, may_strike}
 use Rattle.semantics.specs.Outcomes.{done, refuse}
 use Rattle.cells.specs.declared.cell.Cell.{Cell}
 use Rattle.cells.specs.declared.cell.Cell.TheVariants.{Number}
-use Rattle.book.specs.Layout.{row_start, place, cell_at, width_of, row_in, table_in, model_in, Removed}
-use Rattle.book.proofs.Memory.{slice_index_or_same, apart, rows_at, count_at, row_same, table_same, put_in, put-out, put_length}
+use Rattle.book.specs.Layout.{row_start, cell_at, width_of, row_in, table_in, model_in, Removed}
+use Rattle.book.proofs.Memory.{slice_index_or_same, rows_at, count_at, row_same, table_same, put_in, put-out, put_length}
 use Rattle.book.proofs.Tabled.{tabled-set, tabled_removed}
 
 -- the questions
@@ -28,35 +27,6 @@ pub record Moved (t row i : ℕ) (old new : List Cell) : Type 0 where
   pub size : length new ≡ length old
   pub stay : (u r c : ℕ) → u < 4 → c < 8 → (u ≢ t) ⊎ ((r < row) ⊎ (i ≤ r)) → cell_at new u r c ≡ cell_at old u r c
   pub move : (r c : ℕ) → c < 8 → row ≤ r → r < i → cell_at new t r c ≡ cell_at old t (r + 1) c
-
--- the 8 cells of the next row are copied down
-module _ (t row i at below' : ℕ) (old new after : List Cell) (in' : t < 4) (from : row ≤ i) (start : at ≡ row_start t i) (start' : below' ≡ row_start t (i + 1)) (size' : length after ≡ length new)
-    (here : (k : ℕ) (d : Cell) → at ≤ k → k < at + 8 → get_or after k d ≡ get_or new (below' + (k - at)) d)
-    (below : (k : ℕ) (d : Cell) → k < at → get_or after k d ≡ get_or new k d)
-    (above : (k : ℕ) (d : Cell) → at + 8 ≤ k → get_or after k d ≡ get_or new k d)
-    (m : Moved t row i old new) where
-  same : (u r c : ℕ) → u < 4 → c < 8 → (u ≢ t) ⊎ (r ≢ i) → cell_at after u r c ≡ cell_at new u r c
-  same u r c a b d =
-      ⊎_elim
-      (λ (l : place u r c < row_start t i). below (place u r c) (Number 0) (omega arith))
-      (λ (g : row_start t i + 8 ≤ place u r c). above (place u r c) (Number 0) (omega arith))
-      (apart t i u r c in' a b d)
-
-  next : (c : ℕ) → c < 8 → cell_at after t i c ≡ cell_at new t (i + 1) c
-  next c b = here (place t i c) (Number 0) (omega arith) (omega arith) ∙ ap (λ p. get_or new p (Number 0)) (omega arith)
-
-  pub moved_more : Moved t row (i + 1) old after
-  moved_more = record {
-    size = size' ∙ m.size;
-    stay = λ u r c a b d.
-        same u r c a b (⊎_elim inl (λ o. inr (⊎_elim (λ (x : r < row). omega arith) (λ (x : i + 1 ≤ r). omega arith) o)) d)
-        ∙ m.stay u r c a b (⊎_elim inl (λ o. inr (⊎_elim inl (λ (x : i + 1 ≤ r). inr (omega arith)) o)) d);
-    move = λ r c b low high.
-        ⊎_elim
-        (λ (e : r ≡ i). subst (λ j. cell_at after t j c ≡ cell_at old t (j + 1) c) (sym e) (next c b ∙ m.stay t (i + 1) c in' b (inr (inr (omega arith)))))
-        (λ (ne : r ≢ i). same t r c in' b (inr ne) ∙ m.move r c b low (omega arith))
-        (cases_eq r i);
-  }
 
 -- the last row is cleared
 pub removed_is : (t row n : ℕ) (old new : List Cell) → t < 4 → row ≤ n → n < limit_of (length new) → Moved t row n old new → Removed t row n old (paste new (row_start t n) (replicate 8 (Number 0)) 8)

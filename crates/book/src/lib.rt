@@ -12,7 +12,9 @@ mod read;
 mod slot;
 mod store;
 mod strike;
+mod walk;
 
 pub use book::Book;
 pub use draft::Draft;
 pub use slot::Slot;
+pub use walk::Walk;

@@ -2,9 +2,11 @@ ghost use Rattle.std.specs.Prelude.{◌≡◌, ◌<◌, [], map, length, slice_i
 ghost use Rattle.semantics.specs.Books.{columns_of, rows_of};
 ghost use Rattle.cells.specs.Cells.{cell_value};
 ghost use Rattle.book.specs.Books.{book_model, RowAt};
+ghost use Rattle.book.specs.Walks.{rows_left};
 
 use crate::book::Book;
 use crate::slot::Slot;
+use crate::walk::Walk;
 use cells::Cell;
 use semantics::Column;
 
@@ -29,6 +31,14 @@ impl Book<'_> {
         ensures { result ≡ length (rows_of (book_model self.now) table) }
     {
         self.rows.counts.get(table).copied().unwrap_or(0)
+    }
+
+    /// The rows of a table, none where there is no such table.
+    pub fn rows(&self, table: usize) -> Walk<'_, Cell>
+        ensures { map (map cell_value) (rows_left result) ≡ rows_of (book_model self.now) table }
+    {
+        let width = self.columns(table).len();
+        Walk::of(self.rows.cells, table, width, self.row_count(table))
     }
 
     /// The cells of a row that there is.

@@ -1,6 +1,20 @@
 ghost use Rattle.std.specs.Prelude.{◌≡◌, ◌<◌, take, drop};
 ghost use Rattle.book.specs.Layout.{row_start};
 
+/// So many cells of a memory, or as many as it has.
+pub(crate) fn first<T>(memory: &[T], size: usize) -> &[T]
+    ensures { result.now ≡ take size memory.now }
+{
+    &memory[..size.min(memory.len())]
+}
+
+/// The cells of a memory from a cell on.
+pub(crate) fn behind<T>(memory: &[T], start: usize) -> &[T]
+    ensures { result.now ≡ drop start memory.now }
+{
+    &memory[start.min(memory.len())..]
+}
+
 /// The part of a memory that a row of a table has: each row number has 32 cells, 8 for each of
 /// four tables, and no table has more than 256 rows.
 #[derive(Clone, Copy, PartialEq, Eq, Debug)]
@@ -32,11 +46,11 @@ impl Slot {
         32 * self.row + 8 * self.table
     }
 
+    // Without a width: a slot has 8 cells, of any table, and the signature is promised.
     /// Its 8 cells of a memory, or as many as the memory has.
     pub fn cells<T>(self, memory: &[T]) -> &[T]
         ensures { result.now ≡ take 8 (drop (row_start self.table self.row) memory.now) }
     {
-        let from = &memory[self.start().min(memory.len())..];
-        &from[..from.len().min(8)]
+        first(behind(memory, self.start()), 8)
     }
 }

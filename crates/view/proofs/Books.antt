@@ -1,6 +1,5 @@
 -- Limits of a book.
-use Rattle.std.proofs.Common.{◌≡◌, ℕ, ◌<◌, ◌≤◌, true, List, [], map, length, get_or, Option, Some, sym, refl, ap, ◌∙◌, subst, arith}
-use Rattle.std.specs.Borrow.{Bor}
+use Rattle.std.proofs.Common.{◌≡◌, ℕ, ◌<◌, ◌≤◌, true, List, [], map, length, get_or, sym, refl, ap, ◌∙◌, arith}
 use Rattle.std.proofs.lemmas.List.{get_or_past, length-map}
 use Rattle.std.proofs.lemmas.Bool.Decides.{nat_tests}
 use Rattle.semantics.specs.declared.kind.Kind.{Kind}
@@ -14,7 +13,7 @@ use Rattle.cells.specs.declared.cell.Cell.{Cell}
 use Rattle.cells.specs.Cells.{cell_value}
 use Rattle.bounded.specs.Bounded.{items}
 use Rattle.book.specs.declared.book.Book.{Book}
-use Rattle.book.specs.Books.{book_model, memory, RowAt}
+use Rattle.book.specs.Books.{book_model, memory}
 use Rattle.book.specs.Columns.{columns_in}
 use Rattle.book.proofs.Listing as listing
 use Rattle.book.proofs.Memory.{row-known, row_at}
@@ -37,12 +36,8 @@ module _ (b : Book) (t : ℕ) where
       let k = row-known S b.rows.counts (memory b) t r b.fitting h in
       ap length (row_at S b.rows.counts (memory b) t r k.0 k.1) ∙ length_tabled _ (length (columns_of (book_model b) t))
 
-  values_length : (r : ℕ) (row : List Cell) → r < length (rows_of (book_model b) t) → map cell_value row ≡ get_or (rows_of (book_model b) t) r [] → length row ≡ length (columns_of (book_model b) t)
+  pub values_length : (r : ℕ) (row : List Cell) → r < length (rows_of (book_model b) t) → map cell_value row ≡ get_or (rows_of (book_model b) t) r [] → length row ≡ length (columns_of (book_model b) t)
   values_length r row h e = sym (length-map row cell_value) ∙ (ap length e ∙ row_length r h)
-
-  -- the cells that are read of a row
-  pub row-values : (r : ℕ) (o : Option (Bor (List Cell))) (row : Bor (List Cell)) → RowAt (book_model b) t r o → o ≡ Some row → (length row.now ≡ length (columns_of (book_model b) t)) × (map cell_value row.now ≡ get_or (rows_of (book_model b) t) r [])
-  row-values r o row read is = let found = subst (RowAt (book_model b) t r) is read in (values_length r row.now found.0 found.1, found.1)
 
   pub domain_lt : (c : ℕ) → (column_at (columns_of (book_model b) t) c).domain < 16
   domain_lt c =

@@ -1,8 +1,9 @@
-ghost use Rattle.std.specs.Prelude.{◌≡◌, ℕ, ◌+◌, ◌<◌, length, slice_set};
+ghost use Rattle.std.specs.Prelude.{◌≡◌, ℕ, ◌+◌, ◌<◌, [], map, length, slice_index_or, slice_set};
 ghost use Rattle.book.specs.Layout.{place};
 ghost use Rattle.semantics.specs.Books.{columns_of, rows_of};
 ghost use Rattle.semantics.specs.Views.{Place, drawn, marks, place_of, view};
 ghost use Rattle.semantics.specs.declared.mark.Mark.{Mark};
+ghost use Rattle.cells.specs.Cells.{cell_value};
 ghost use Rattle.book.specs.Books.{book_model};
 ghost use Rattle.view.specs.Drawing.{AllDrawn, DrawnFor, HasNumber, counted};
 ghost use Rattle.view.specs.Sizes.{size_at};
@@ -14,6 +15,7 @@ use crate::position::Position;
 use crate::size::Size;
 use crate::view::View;
 use book::{Book, Slot};
+use cells::Cell;
 use policy::Policy;
 use std::array;
 
@@ -42,12 +44,18 @@ struct Scene<'d, P> {
 
 impl<P: Policy> Scene<'_, P> {
     /// Draws a row, all cells before which are drawn.
-    fn draw_row(&self, cells: &mut [Masked; 8192], numbers: &mut [u16; 16], slot: Slot)
+    fn draw_row(
+        &self,
+        cells: &mut [Masked; 8192],
+        numbers: &mut [u16; 16],
+        slot: Slot,
+        values: &[Cell],
+    )
+        requires values { map cell_value values.now ≡ slice_index_or (rows_of (book_model self.now.book.now) slot.table) slot.row [] }
         requires there { slot.row < length (rows_of (book_model self.now.book.now) slot.table) }
         requires drawn { DrawnFor (P.Policy.meaning self.now.policy.now) self.now.broker (book_model self.now.book.now) (place_of slot.table slot.row 0) cells.old numbers.old }
         ensures { DrawnFor (P.Policy.meaning self.now.policy.now) self.now.broker (book_model self.now.book.now) (place_of slot.table (slot.row + 1) 0) cells.new numbers.new }
     {
-        let values = self.book.row(slot.table, slot.row).unwrap();
         // By number: it is what the policy and the position are asked for, and no value is read here.
         for column in 0..values.len() {
             let mark = self.policy.mark(self.broker, slot.table, values, column);
@@ -69,9 +77,8 @@ impl<P: Policy> Scene<'_, P> {
         requires drawn { DrawnFor (P.Policy.meaning self.now.policy.now) self.now.broker (book_model self.now.book.now) (place_of table 0 0) cells.old numbers.old }
         ensures { DrawnFor (P.Policy.meaning self.now.policy.now) self.now.broker (book_model self.now.book.now) (place_of (table + 1) 0 0) cells.new numbers.new }
     {
-        // By number: the slot of a row is made of it.
-        for row in 0..self.book.row_count(table) {
-            self.draw_row(cells, numbers, Slot { table, row });
+        for (row, values) in self.book.rows(table).enumerate() {
+            self.draw_row(cells, numbers, Slot { table, row }, values);
         }
     }
 

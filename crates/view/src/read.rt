@@ -1,10 +1,11 @@
 ghost use Rattle.std.specs.Prelude.{◌≡◌, ◌<◌, [], ◌∷◌, map, length, slice_index_or};
+ghost use Rattle.book.specs.Walks.{rows_left};
 ghost use Rattle.view.specs.Views.{masked_of, view_tables, width_in, RowSeen};
 
 use crate::masked::Masked;
 use crate::size::Size;
 use crate::view::View;
-use book::Slot;
+use book::{Slot, Walk};
 
 impl View {
     /// The view of nothing: four tables without rows.
@@ -35,6 +36,14 @@ impl View {
         ensures { result ≡ width_in self.now table }
     {
         self.sizes.get(table).map_or(0, |size| size.columns)
+    }
+
+    /// The rows of a table, none where there is no such table.
+    pub fn rows(&self, table: usize) -> Walk<'_, Masked>
+        ensures { map (map masked_of) (rows_left result) ≡ slice_index_or (view_tables self.now) table [] }
+    {
+        let width = self.width(table);
+        Walk::of(&self.cells, table, width, self.row_count(table))
     }
 
     /// The cells of a row that there is.

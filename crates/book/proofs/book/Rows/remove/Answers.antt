@@ -4,21 +4,13 @@ use Rattle.std.proofs.lemmas.Slice.{put_mid-paste}
 use Rattle.cells.specs.declared.cell.Cell.TheVariants.{Number}
 use Rattle.book.specs.Layout.{Removed}
 use Rattle.book.proofs.Memory.{part-eight}
-use Rattle.book.proofs.Striking.{Moved, moved_more, removed_is}
+use Rattle.book.proofs.Striking.{Moved, removed_is}
 use Rattle.book.proofs.book.Rows.remove.Goals as goal
 
 pub copy_within-requires : goal.copy_within-requires
 copy_within-requires c =
     let z = c.loop-row.invariant.1.size in
     record { start_le_end = omega arith; in_bounds = omega arith; dest_in_bounds = omega arith; not_exhausted = tt }
-
-pub loop-row-preserved : goal.loop-row-preserved
-loop-row-preserved c =
-    let p = c.copy_within.ensures.by_index in (
-      c.loop-row.invariant.0,
-      moved_more c.args.at.table c.args.at.row c.loop-row.row c.start-start.result c.start-next.result c.args.self.now.cells.now c.loop-row.self.cells.now c.copy_within.new.self (omega arith) c.loop-row.auto.row c.start-start.ensures c.start-next.ensures c.copy_within.ensures.len
-          (λ k d a b. p.0 k d a (omega arith)) (λ k d a. p.1 k d a) (λ k d a. p.2 k d (omega arith)) c.loop-row.invariant.1,
-    )
 
 pub returns : goal.returns
 returns c =

@@ -6,15 +6,6 @@ use Rattle.book.specs.Columns.{columns_in}
 use Rattle.book.proofs.Listing.{columns-at, declared-is}
 use Rattle.book.proofs.draft.Draft.add.Goals as goal
 
-pub returns : goal.returns
-returns c =
-    let s = c.args.self.now in
-    let t = c.args.table in
-    let in' : t < length s.tables = omega (arith, s.four, c.requires.0) in
-    let z = c.index-tables-table.result in
-    let w = ap length (columns-at s.tables t z in') in
-    declared-is s.tables t z c.push.new.self c.args.column in' (c.push.ensures.room (omega arith)).1
-
 pub invariant_of-self : goal.invariant_of-self
 invariant_of-self c =
     let s = c.args.self.now in

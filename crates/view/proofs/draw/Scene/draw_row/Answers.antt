@@ -4,7 +4,7 @@ use Rattle.semantics.specs.Views.{marks, place_of}
 use Rattle.cells.specs.Cells.{cell_value}
 use Rattle.book.specs.Books.{book_model}
 use Rattle.view.specs.Drawing.{Drawn}
-use Rattle.view.proofs.Books.{width-le, row-values}
+use Rattle.view.proofs.Books.{width-le, values_length}
 use Rattle.view.proofs.Drawing.{mark-is, next-number, next-cell, drawn-row}
 use Rattle.view.proofs.draw.Scene.draw_row.Goals as goal
 
@@ -13,8 +13,7 @@ invariant_of-at g c =
     let b = c.args.self.now.book.now in
     let s = c.args.slot in
     let w = width-le b s.table in
-    let row = row-values b s.table s.row c.row.result c.unwrap-values.result c.row.ensures c.unwrap-values.ensures in
-    let l = row.0 in
+    let l = values_length b s.table s.row c.args.values.now c.requires.there c.requires.values in
     record { narrow = omega arith }
 
 pub put-requires : goal.put-requires
@@ -22,8 +21,7 @@ put-requires g c =
     let e = c.args.self.now in
     let b = e.book.now in
     let s = c.args.slot in
-    let row = row-values b s.table s.row c.row.result c.unwrap-values.result c.row.ensures c.unwrap-values.ensures in
-    let l = row.0 in
+    let l = values_length b s.table s.row c.args.values.now c.requires.there c.requires.values in
     next-number b (marks (g.P.Policy.meaning e.policy.now) e.broker (book_model b)) c.loop-column.cells c.loop-column.numbers s.table s.row c.loop-column.column c.loop-column.invariant s.four c.requires.there (omega arith)
     c.mark-mark.result c.mask-masked.result c.mask-masked.ensures
 
@@ -33,12 +31,11 @@ loop-column-preserved g c =
     let b = e.book.now in
     let s = c.args.slot in
     let meaning = g.P.Policy.meaning e.policy.now in
-    let row = row-values b s.table s.row c.row.result c.unwrap-values.result c.row.ensures c.unwrap-values.ensures in
-    let l = row.0 in
-    let asked : c.mark-mark.result ≡ meaning e.broker s.table (map cell_value c.unwrap-values.result.now) c.loop-column.column = c.mark-mark.ensures in
+    let l = values_length b s.table s.row c.args.values.now c.requires.there c.requires.values in
+    let asked : c.mark-mark.result ≡ meaning e.broker s.table (map cell_value c.args.values.now) c.loop-column.column = c.mark-mark.ensures in
     next-cell b (marks meaning e.broker (book_model b)) c.loop-column.cells c.loop-column.numbers s.table s.row c.loop-column.column c.loop-column.invariant s.four c.requires.there (omega arith)
     c.mark-mark.result c.mask-masked.result c.mask-masked.ensures c.put.new.cells c.put.new.numbers
-    (mark-is meaning e.broker (book_model b) (place_of s.table s.row c.loop-column.column) c.mark-mark.result (map cell_value c.unwrap-values.result.now) asked row.1)
+    (mark-is meaning e.broker (book_model b) (place_of s.table s.row c.loop-column.column) c.mark-mark.result (map cell_value c.args.values.now) asked c.requires.values)
     c.put.ensures.counted c.put.ensures.cell
 
 pub returns : goal.returns
@@ -48,8 +45,7 @@ returns g c =
     let s = c.args.slot in
     let m = book_model b in
     let mark = marks (g.P.Policy.meaning e.policy.now) e.broker m in
-    let row = row-values b s.table s.row c.row.result c.unwrap-values.result c.row.ensures c.unwrap-values.ensures in
-    let l = row.0 in
+    let l = values_length b s.table s.row c.args.values.now c.requires.there c.requires.values in
     let end : c.loop-column.column ≡ length (columns_of (book_model b) s.table) = omega arith in
     drawn-row mark m c.loop-column.cells c.loop-column.numbers s.table s.row
     (subst (λ k. Drawn mark m (place_of s.table s.row k) c.loop-column.cells c.loop-column.numbers) end c.loop-column.invariant)
