@@ -1,31 +1,15 @@
--- The questions of an amendment, and the book after it.
-use Rattle.std.proofs.Common.{◌≡◌, ℕ, ◌<◌, ◌≤◌, Bool, ◌≢◌, ◌⊎◌, List, [], length, get_or, set, ap, inl, inr, ⊎_elim, arith}
+-- The book after an amendment.
+use Rattle.std.proofs.Common.{◌≡◌, ℕ, ◌<◌, ◌≤◌, ◌≢◌, ◌⊎◌, List, [], length, get_or, set, ap, inl, inr, ⊎_elim, arith}
 use Rattle.std.proofs.lemmas.List.{get_or-set_same, get_or-set_other, length-set}
 use Rattle.std.proofs.lemmas.Bool.{cases_eq}
-use Rattle.std.proofs.lemmas.Bool.Decides.{nat_tests}
 use Rattle.semantics.specs.declared.kind.Column.{Column}
-use Rattle.semantics.specs.declared.refusal.Refusal.TheVariants.{NoRow, NoColumn, WrongKind}
-use Rattle.semantics.specs.Books.{rows_of, with_rows, limit_of, column_at, may_amend}
-use Rattle.semantics.specs.Kinds.{same_kind}
-use Rattle.semantics.specs.Outcomes.{done, refuse, question}
-use Rattle.semantics.specs.Values.{Value, kind_of}
+use Rattle.semantics.specs.Books.{rows_of, with_rows, limit_of}
 use Rattle.cells.specs.declared.cell.Cell.{Cell}
 use Rattle.cells.specs.declared.cell.Cell.TheVariants.{Number}
 use Rattle.cells.specs.Cells.{cell_value}
 use Rattle.book.specs.Layout.{place, cell_at, width_of, row_in, table_in, model_in}
-use Rattle.book.proofs.Memory.{rows_at, count_at, row_at, row_same, table_same}
+use Rattle.book.proofs.Memory.{rows_at, row_at, row_same, table_same}
 use Rattle.book.proofs.Tabled.{tabled-set}
-
--- the questions
-module _ (S : List (List Column)) (ns : List ℕ) (cells : List Cell) (t r c : ℕ) (v : Value) (in' : t < 4) where
-  pub amend_row : get_or ns t 0 ≤ r → may_amend (model_in S ns cells) t r c v ≡ refuse NoRow
-  amend_row b = let n = count_at S ns cells t in' in grind (arith, nat_tests)
-
-  pub amend_column : r < get_or ns t 0 → width_of S t ≤ c → may_amend (model_in S ns cells) t r c v ≡ refuse NoColumn
-  amend_column b d = let n = count_at S ns cells t in' in grind (arith, nat_tests)
-
-  pub amend_kind : (same : Bool) → r < get_or ns t 0 → c < width_of S t → same ≡ same_kind (column_at (get_or S t []) c).kind (kind_of v) → may_amend (model_in S ns cells) t r c v ≡ question same (WrongKind 0) (done tt)
-  amend_kind same b d e = let n = count_at S ns cells t in' in grind (arith, nat_tests)
 
 -- the book after an amendment
 module _ (S : List (List Column)) (ns : List ℕ) (cells : List Cell) (t r c : ℕ) (x : Cell) (narrow : (t : ℕ) → width_of S t ≤ 8) (in' : t < 4) (row : r < get_or ns t 0) (column : c < width_of S t) (room : r < limit_of (length cells)) where

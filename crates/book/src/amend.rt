@@ -33,16 +33,13 @@ impl Book<'_> {
         ensures answers { AnswersAs (λ _. tt) result (may_amend (book_model self.now) table row column (cell_value cell)) }
         ensures at { IfOk result (λ at. (at.table ≡ table) × (at.row ≡ row)) }
     {
-        let count = self.rows.counts.get(table).ok_or(Refusal::NoTable)?;
-        if row >= *count {
-            return Err(Refusal::NoRow);
-        }
+        let at = self.may_strike(table, row)?;
         let columns = self.columns(table);
         let column = columns.get(column).ok_or(Refusal::NoColumn)?;
         if column.kind != cell.kind() {
             return Err(Refusal::WrongKind(0));
         }
-        Ok(Slot { table, row })
+        Ok(at)
     }
 
     /// Replaces a cell that there is by one of its kind.

@@ -36,7 +36,7 @@ impl Rows<'_> {
 
 impl Book<'_> {
     /// The questions of a strike, and the slot of the row.
-    fn may_strike(&self, table: usize, row: usize) -> Result<Slot, Refusal>
+    pub(crate) fn may_strike(&self, table: usize, row: usize) -> Result<Slot, Refusal>
         ensures answers { AnswersAs (λ _. tt) result (may_strike (book_model self.now) table row) }
         ensures at { IfOk result (λ at. (at.table ≡ table) × (at.row ≡ row)) }
     {
