@@ -1,11 +1,12 @@
 -- The relations of a stack in a plan, and what each record makes of them.
-use Rattle.std.proofs.Common.{◌≡◌, ℕ, zero, suc, ◌+◌, ◌-◌, ◌<◌, ◌≤◌, Bool, true, false, eqb, leb, ◌⊎◌, List, [], ◌∷◌, ◌++◌, map, length, get_or, drop, Some, None, Option, sym, refl, ap, ◌∙◌, subst, inl, inr, ⊎_elim, arith}
+use Rattle.std.proofs.Common.{◌≡◌, ℕ, zero, suc, ◌+◌, ◌-◌, ◌<◌, ◌≤◌, Bool, true, false, eqb, leb, ◌⊎◌, List, [], ◌∷◌, ◌++◌, map, length, get_or, drop, Some, None, Ok, Err, Option, Result, sym, refl, ap, ◌∙◌, subst, inl, inr, ⊎_elim, arith}
 use Rattle.std.proofs.lemmas.List.{append_assoc, length-append, length_push, get_or_push, get_or_append_left, get_or-append_right}
 use Rattle.std.proofs.lemmas.Option.{slice_get_within}
 use Rattle.std.proofs.lemmas.Bool.{le-leb, lt-leb, eq-eqb, ne_eqb}
 use Rattle.std.specs.List.{slice_get}
-use Rattle.std.specs.Option.{MatchOption}
+use Rattle.std.specs.Result.{MatchResult}
 use Rattle.semantics.specs.declared.kind.Column.{Column}
+use Rattle.semantics.specs.declared.refusal.Refusal.{Refusal}
 use Rattle.semantics.specs.declared.refusal.Refusal.TheVariants.{StackShort, NoSuchName, Unfit, ProductTooWide}
 use Rattle.semantics.specs.Conditions.{Condition, kind_at, named_comparison, fitting_comparison, every_comparison}
 use Rattle.semantics.specs.Kinds.{same_kind}
@@ -18,7 +19,7 @@ use Rattle.query.specs.declared.plan.Plan.{Plan}
 use Rattle.query.specs.declared.step.Sides.{Sides}
 use Rattle.query.specs.declared.step.Step.{Step}
 use Rattle.query.specs.Kinds.{kinds_in, among}
-use Rattle.query.specs.Plans.{Parted, planned_in, record_count, NodeOf, Plans, laid, asked, Grew, SidesOf, SidesAre, lone}
+use Rattle.query.specs.Plans.{Parted, planned_in, record_count, NodeOf, Plans, laid, asked, Grew, PartIs, SidesOf, SidesAre, lone}
 use Rattle.query.specs.Saying.{first_said}
 use Rattle.query.proofs.Widths.{got_none}
 
@@ -87,25 +88,25 @@ module _ (columns : List (List Column)) (bytes : List ℕ) (plan : Plan) where
   no-record plans p h = omega (arith, slice_get_within (planned_in plan) (record_count plan - 1) p (sym h), plans.counted)
 
   -- The last two relations.
-  pub sides_none : (stack : List Tree) → Plans columns bytes plan (laid stack) → None ≡ slice_get (planned_in plan) (record_count plan - 1) → SidesAre columns stack None
-  sides_none [] plans h = refl
-  sides_none (x ∷ []) plans h = refl
-  sides_none (x ∷ (y ∷ below)) plans h = no_last x (y ∷ below) plans h
+  pub sides_none : (stack : List Tree) (e : Refusal) → Plans columns bytes plan (laid stack) → None ≡ slice_get (planned_in plan) (record_count plan - 1) → e ≡ StackShort (record_count plan) → SidesAre columns (record_count plan) stack (Err e)
+  sides_none [] e plans h f = f
+  sides_none (x ∷ []) e plans h f = f
+  sides_none (x ∷ (y ∷ below)) e plans h f = no_last x (y ∷ below) plans h
 
-  pub sides_single : (stack : List Tree) (r : Planned) → Plans columns bytes plan (laid stack) → Some r ≡ slice_get (planned_in plan) (record_count plan - 1) → r.step.start < 1 → SidesAre columns stack None
-  sides_single [] r plans h z = refl
-  sides_single (x ∷ []) r plans h z = refl
-  sides_single (x ∷ (y ∷ below)) r plans h z = let t = top-known x (y ∷ below) plans r h in omega (arith, t.1, z, length-append (laid below) (nodes y), nodes-some y)
+  pub sides_single : (stack : List Tree) (r : Planned) (e : Refusal) → Plans columns bytes plan (laid stack) → Some r ≡ slice_get (planned_in plan) (record_count plan - 1) → r.step.start < 1 → e ≡ StackShort (record_count plan) → SidesAre columns (record_count plan) stack (Err e)
+  sides_single [] r e plans h z f = f
+  sides_single (x ∷ []) r e plans h z f = f
+  sides_single (x ∷ (y ∷ below)) r e plans h z f = let t = top-known x (y ∷ below) plans r h in omega (arith, t.1, z, length-append (laid below) (nodes y), nodes-some y)
 
-  pub sides_past : (stack : List Tree) (r : Planned) (number : ℕ) → Plans columns bytes plan (laid stack) → Some r ≡ slice_get (planned_in plan) (record_count plan - 1) → number ≡ r.step.start - 1 → None ≡ slice_get (planned_in plan) number → SidesAre columns stack None
-  sides_past [] r number plans h e g = refl
-  sides_past (x ∷ []) r number plans h e g = refl
-  sides_past (x ∷ (y ∷ below)) r number plans h e g =
+  pub sides_past : (stack : List Tree) (r : Planned) (number : ℕ) (e : Refusal) → Plans columns bytes plan (laid stack) → Some r ≡ slice_get (planned_in plan) (record_count plan - 1) → number ≡ r.step.start - 1 → None ≡ slice_get (planned_in plan) number → e ≡ StackShort (record_count plan) → SidesAre columns (record_count plan) stack (Err e)
+  sides_past [] r number e plans h k g f = f
+  sides_past (x ∷ []) r number e plans h k g f = f
+  sides_past (x ∷ (y ∷ below)) r number e plans h k g f =
       let t = top-known x (y ∷ below) plans r h in
       let n = got_none (planned_in plan) number g in
-      omega (arith, t.1, e, n, plans.counted, length-append (laid (y ∷ below)) (nodes x), length-append (laid below) (nodes y), nodes-some x, nodes-some y)
+      omega (arith, t.1, k, n, plans.counted, length-append (laid (y ∷ below)) (nodes x), length-append (laid below) (nodes y), nodes-some x, nodes-some y)
 
-  pub sides_two : (stack : List Tree) (l r : Planned) (number : ℕ) → Plans columns bytes plan (laid stack) → Some r ≡ slice_get (planned_in plan) (record_count plan - 1) → 1 ≤ r.step.start → number ≡ r.step.start - 1 → Some l ≡ slice_get (planned_in plan) number → SidesAre columns stack (Some (record { number = number; left = l.step; right = r.step }))
+  pub sides_two : (stack : List Tree) (l r : Planned) (number : ℕ) → Plans columns bytes plan (laid stack) → Some r ≡ slice_get (planned_in plan) (record_count plan - 1) → 1 ≤ r.step.start → number ≡ r.step.start - 1 → Some l ≡ slice_get (planned_in plan) number → SidesAre columns (record_count plan) stack (Ok (record { number = number; left = l.step; right = r.step }))
   sides_two [] l r number plans h s e g = absurd (no-record plans r h)
   sides_two (x ∷ []) l r number plans h s e g = absurd (let t = top-known x [] plans r h in omega (arith, t.1, s))
   sides_two (x ∷ (y ∷ below)) l r number plans h s e g =
@@ -125,9 +126,9 @@ module _ (columns : List (List Column)) (bytes : List ℕ) (plan : Plan) where
   lone_is (x ∷ (y ∷ below)) r plans h = ne_eqb _ 0 (λ z. let t = top-known x (y ∷ below) plans r h in omega (arith, t.1, z, length-append (laid below) (nodes y), nodes-some y))
 
   -- as the code asks it of the last record, if there is one
-  pub lone_by : (stack : List Tree) (last : Option Planned) (b : Bool) (said : Planned → Type 0) → Plans columns bytes plan (laid stack) → last ≡ slice_get (planned_in plan) (record_count plan - 1) → MatchOption last (b ≡ false) said → ((r : Planned) → said r → b ≡ eqb r.step.start 0) → b ≡ lone stack
-  lone_by stack None b said plans h m f = m ∙ lone_none stack plans h
-  lone_by stack (Some r) b said plans h m f = f r m ∙ lone_is stack r plans h
+  pub lone_by : (stack : List Tree) (part : Result Planned Refusal) (b : Bool) (said : Planned → Type 0) → Plans columns bytes plan (laid stack) → PartIs plan part → MatchResult part said (λ _. b ≡ false) → ((r : Planned) → said r → b ≡ eqb r.step.start 0) → b ≡ lone stack
+  lone_by stack (Err e) b said plans h m f = m ∙ lone_none stack plans h.0
+  lone_by stack (Ok r) b said plans h m f = f r m ∙ lone_is stack r plans h
 
   -- A selection.
   module _ (c : Condition) where
@@ -218,36 +219,33 @@ two-begins x y below s start n e =
 
 module _ (columns : List (List Column)) (n : ℕ) where
   -- A product.
-  pub product_short : (stack : List Tree) → SidesAre columns stack None → asked columns n stack product_record ≡ refuse (StackShort n)
-  product_short [] s = refl
-  product_short (x ∷ []) s = refl
-  product_short (x ∷ (y ∷ below)) s = absurd s
+  pub product_short : (stack : List Tree) (e : Refusal) → SidesAre columns n stack (Err e) → asked columns n stack product_record ≡ refuse e
+  product_short [] e s = rw s
+  product_short (x ∷ []) e s = rw s
+  product_short (x ∷ (y ∷ below)) e s = absurd s
 
-  pub union_short : (stack : List Tree) → SidesAre columns stack None → asked columns n stack union_record ≡ refuse (StackShort n)
-  union_short [] s = refl
-  union_short (x ∷ []) s = refl
-  union_short (x ∷ (y ∷ below)) s = absurd s
+  pub union_short : (stack : List Tree) (e : Refusal) → SidesAre columns n stack (Err e) → asked columns n stack union_record ≡ refuse e
+  union_short [] e s = rw s
+  union_short (x ∷ []) e s = rw s
+  union_short (x ∷ (y ∷ below)) e s = absurd s
 
-  pub difference_short : (stack : List Tree) → SidesAre columns stack None → asked columns n stack difference_record ≡ refuse (StackShort n)
-  difference_short [] s = refl
-  difference_short (x ∷ []) s = refl
-  difference_short (x ∷ (y ∷ below)) s = absurd s
+  pub difference_short : (stack : List Tree) (e : Refusal) → SidesAre columns n stack (Err e) → asked columns n stack difference_record ≡ refuse e
+  difference_short [] e s = rw s
+  difference_short (x ∷ []) e s = rw s
+  difference_short (x ∷ (y ∷ below)) e s = absurd s
 
   -- where two relations are on top
   module _ (s : Sides) where
-    no-sides : Some s ≡ None → ⊥
-    no-sides h = let z : ◌≡◌ {A = ℕ} 0 1 = cc in omega arith
-
-    pub product_wide : (stack : List Tree) → SidesAre columns stack (Some s) → 8 < length (kinds_in s.left.kinds) + length (kinds_in s.right.kinds) → asked columns n stack product_record ≡ refuse (ProductTooWide n)
-    product_wide [] t h = absurd (no-sides t)
-    product_wide (x ∷ []) t h = absurd (no-sides t)
+    pub product_wide : (stack : List Tree) → SidesAre columns n stack (Ok s) → 8 < length (kinds_in s.left.kinds) + length (kinds_in s.right.kinds) → asked columns n stack product_record ≡ refuse (ProductTooWide n)
+    product_wide [] t h = absurd t
+    product_wide (x ∷ []) t h = absurd t
     product_wide (x ∷ (y ∷ below)) t h =
         let a : leb (length (kinds_of columns y) + length (kinds_of columns x)) 8 ≡ false = lt-leb _ _ (omega (arith, ap length t.known_left, ap length t.known_right)) in
         rw a
 
-    pub product_grew : (stack : List Tree) (step : Step) → SidesAre columns stack (Some s) → length (kinds_in s.left.kinds) + length (kinds_in s.right.kinds) ≤ 8 → step.left ≡ s.number → step.start ≡ s.left.start → kinds_in step.kinds ≡ kinds_in s.left.kinds ++ kinds_in s.right.kinds → Grew columns stack step product_record (asked columns n stack product_record)
-    product_grew [] step t h f g d = absurd (no-sides t)
-    product_grew (x ∷ []) step t h f g d = absurd (no-sides t)
+    pub product_grew : (stack : List Tree) (step : Step) → SidesAre columns n stack (Ok s) → length (kinds_in s.left.kinds) + length (kinds_in s.right.kinds) ≤ 8 → step.left ≡ s.number → step.start ≡ s.left.start → kinds_in step.kinds ≡ kinds_in s.left.kinds ++ kinds_in s.right.kinds → Grew columns stack step product_record (asked columns n stack product_record)
+    product_grew [] step t h f g d = absurd t
+    product_grew (x ∷ []) step t h f g d = absurd t
     product_grew (x ∷ (y ∷ below)) step t h f g d =
         let a : leb (length (kinds_of columns y) + length (kinds_of columns x)) 8 ≡ true = le-leb _ _ (omega (arith, ap length t.known_left, ap length t.known_right)) in
         record {
@@ -265,20 +263,20 @@ module _ (columns : List (List Column)) (n : ℕ) where
     alike : (x y : Tree) (below : List Tree) (b : Bool) → SidesOf columns below y x s → b ≡ pairwise same_kind (kinds_in s.left.kinds) (kinds_in s.right.kinds) → pairwise same_kind (kinds_of columns y) (kinds_of columns x) ≡ b
     alike x y below b t h = sym (h ∙ ap (λ ks. pairwise same_kind ks (kinds_in s.right.kinds)) t.known_left ∙ ap (λ ks. pairwise same_kind (kinds_of columns y) ks) t.known_right)
 
-    pub union_unfit : (stack : List Tree) → SidesAre columns stack (Some s) → false ≡ pairwise same_kind (kinds_in s.left.kinds) (kinds_in s.right.kinds) → asked columns n stack union_record ≡ refuse (Unfit n)
-    union_unfit [] t h = absurd (no-sides t)
-    union_unfit (x ∷ []) t h = absurd (no-sides t)
+    pub union_unfit : (stack : List Tree) → SidesAre columns n stack (Ok s) → false ≡ pairwise same_kind (kinds_in s.left.kinds) (kinds_in s.right.kinds) → asked columns n stack union_record ≡ refuse (Unfit n)
+    union_unfit [] t h = absurd t
+    union_unfit (x ∷ []) t h = absurd t
     union_unfit (x ∷ (y ∷ below)) t h = rw (alike x y below false t h)
 
-    pub difference_unfit : (stack : List Tree) → SidesAre columns stack (Some s) → false ≡ pairwise same_kind (kinds_in s.left.kinds) (kinds_in s.right.kinds) → asked columns n stack difference_record ≡ refuse (Unfit n)
-    difference_unfit [] t h = absurd (no-sides t)
-    difference_unfit (x ∷ []) t h = absurd (no-sides t)
+    pub difference_unfit : (stack : List Tree) → SidesAre columns n stack (Ok s) → false ≡ pairwise same_kind (kinds_in s.left.kinds) (kinds_in s.right.kinds) → asked columns n stack difference_record ≡ refuse (Unfit n)
+    difference_unfit [] t h = absurd t
+    difference_unfit (x ∷ []) t h = absurd t
     difference_unfit (x ∷ (y ∷ below)) t h = rw (alike x y below false t h)
 
     module _ (step : Step) (left : step.left ≡ s.number) (start : step.start ≡ s.left.start) (kept : step.kinds ≡ s.left.kinds) where
-      pub union_grew : (stack : List Tree) → SidesAre columns stack (Some s) → true ≡ pairwise same_kind (kinds_in s.left.kinds) (kinds_in s.right.kinds) → Grew columns stack step union_record (asked columns n stack union_record)
-      union_grew [] t h = absurd (no-sides t)
-      union_grew (x ∷ []) t h = absurd (no-sides t)
+      pub union_grew : (stack : List Tree) → SidesAre columns n stack (Ok s) → true ≡ pairwise same_kind (kinds_in s.left.kinds) (kinds_in s.right.kinds) → Grew columns stack step union_record (asked columns n stack union_record)
+      union_grew [] t h = absurd t
+      union_grew (x ∷ []) t h = absurd t
       union_grew (x ∷ (y ∷ below)) t h =
           let a = alike x y below true t h in
           record {
@@ -292,9 +290,9 @@ module _ (columns : List (List Column)) (n : ℕ) where
             known = ap kinds_in kept ∙ t.known_left;
           }
 
-      pub difference_grew : (stack : List Tree) → SidesAre columns stack (Some s) → true ≡ pairwise same_kind (kinds_in s.left.kinds) (kinds_in s.right.kinds) → Grew columns stack step difference_record (asked columns n stack difference_record)
-      difference_grew [] t h = absurd (no-sides t)
-      difference_grew (x ∷ []) t h = absurd (no-sides t)
+      pub difference_grew : (stack : List Tree) → SidesAre columns n stack (Ok s) → true ≡ pairwise same_kind (kinds_in s.left.kinds) (kinds_in s.right.kinds) → Grew columns stack step difference_record (asked columns n stack difference_record)
+      difference_grew [] t h = absurd t
+      difference_grew (x ∷ []) t h = absurd t
       difference_grew (x ∷ (y ∷ below)) t h =
           let a = alike x y below true t h in
           record {

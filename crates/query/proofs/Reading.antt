@@ -7,11 +7,12 @@ use Rattle.semantics.specs.declared.refusal.Refusal.TheVariants.{BrokenRecord, U
 use Rattle.semantics.specs.Bytes as bytes
 use Rattle.semantics.specs.Bytes.{first_record}
 use Rattle.semantics.specs.Outcomes.{Outcome, done, refuse, question, found, and_then}
-use Rattle.semantics.specs.Reading.{record_form}
-use Rattle.semantics.specs.Records.{Record}
+use Rattle.semantics.specs.Conditions.{Condition}
+use Rattle.semantics.specs.Reading.{condition_form, record_form}
+use Rattle.semantics.specs.Records.{Record, select_record}
 use Rattle.semantics.proofs.Outcomes.{question-done}
 use Rattle.query.specs.declared.record.Record as code
-use Rattle.query.specs.Saying.{First, first_said, said_by, ReadAs}
+use Rattle.query.specs.Saying.{Decided, First, first_said, said_by, ReadAs}
 
 pub said_after : (n : ℕ) (s : List ℕ) (first : bytes.First) (says : Record) → first_record s ≡ Some first → said_by n first ≡ done says → first_said n s ≡ done (record { says = says; rest = first.rest })
 said_after n s first says f d =
@@ -20,6 +21,10 @@ said_after n s first says f d =
     ap (λ o. and_then (found o (BrokenRecord n)) (λ first. question (leb 1 first.kind && leb first.kind 6) (UnknownRecord n) (and_then (record_form (WrongForm n) first.kind first.body) (λ says. done (record { says = says; rest = first.rest }))))) f
     ∙ ap (λ b. question b (UnknownRecord n) (and_then (record_form (WrongForm n) first.kind first.body) (λ says. done (record { says = says; rest = first.rest })))) t
     ∙ ap (λ o. and_then o (λ says. done (record { says = says; rest = first.rest }))) q.1
+
+-- a select, where its body is a condition
+pub selects : (n kind : ℕ) (body rest : List ℕ) → kind ≡ 2 → Decided true (WrongForm n) (condition_form (WrongForm n) body) → (s : Record) × (said_by n (record { kind = kind; body = body; rest = rest }) ≡ done s) × ((c : Condition) × (condition_form (WrongForm n) body ≡ done c) × (s ≡ select_record c))
+selects n kind body rest k d = (select_record d.0, rw (k, d.1), (d.0, d.1, refl))
 
 -- why nothing was got
 pub refused-none : {X : Type 0} (o : Option X) (e f : Refusal) → Err e ≡ ok_or o f → (o ≡ None) × (e ≡ f)

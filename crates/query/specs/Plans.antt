@@ -1,5 +1,5 @@
 -- What a plan stands for: the relations of a query by record number.
-use Rattle.std.specs.Prelude.{◌≡◌, ℕ, ◌+◌, ◌-◌, ◌<◌, ◌≤◌, Bool, true, false, List, [], ◌∷◌, ◌++◌, map, length, drop, Some, None, Ok, Err, Option, Result, nat_lt, slice_get, slice_index, slice_index_or, MatchOption}
+use Rattle.std.specs.Prelude.{◌≡◌, ℕ, ◌+◌, ◌-◌, ◌<◌, ◌≤◌, Bool, true, false, List, [], ◌∷◌, ◌++◌, map, length, drop, Some, None, Ok, Err, Option, Result, nat_lt, slice_get, slice_index, slice_index_or, MatchResult}
 use Rattle.semantics.specs.declared.kind.Column.{Column}
 use Rattle.semantics.specs.declared.refusal.Refusal.{Refusal}
 use Rattle.semantics.specs.declared.refusal.Refusal.TheVariants.{BrokenRecord, StackShort, NoSuchName, Unfit, ProductTooWide}
@@ -88,17 +88,21 @@ OnStack columns plan P = (bytes : List ℕ) (stack : List Tree) → Plans column
 abbrev pub Grows : List (List Column) → Plan → records.Record → Result Step Refusal → Type 0
 Grows columns plan says r = OnStack columns plan (λ stack. StepIs columns stack says r (asked columns (record_count plan) stack says))
 
--- The two relations on top of the stack, if there are two.
+-- What the last record has added, or that the stack is too short.
+abbrev pub PartIs : Plan → Result Planned Refusal → Type 0
+PartIs plan r = MatchResult r (λ p. Some p ≡ slice_get (planned_in plan) (record_count plan - 1)) (λ e. (None ≡ slice_get (planned_in plan) (record_count plan - 1)) × (e ≡ StackShort (record_count plan)))
+
+-- The two relations on top of the stack, or that it is too short.
 pub record SidesOf (columns : List (List Column)) (below : List Tree) (left right : Tree) (s : Sides) : Type 0 where
   pub numbered : s.number ≡ length (laid (left ∷ below)) - 1
   pub begins : s.left.start ≡ length (laid below)
   pub known_left : kinds_in s.left.kinds ≡ kinds_of columns left
   pub known_right : kinds_in s.right.kinds ≡ kinds_of columns right
 
-abbrev pub SidesAre : List (List Column) → List Tree → Option Sides → Type 0
-SidesAre columns [] r = r ≡ None
-SidesAre columns (x ∷ []) r = r ≡ None
-SidesAre columns (x ∷ (y ∷ below)) r = MatchOption r ⊥ (λ s. SidesOf columns below y x s)
+abbrev pub SidesAre : List (List Column) → ℕ → List Tree → Result Sides Refusal → Type 0
+SidesAre columns n [] r = MatchResult r (λ s. ⊥) (λ e. e ≡ StackShort n)
+SidesAre columns n (x ∷ []) r = MatchResult r (λ s. ⊥) (λ e. e ≡ StackShort n)
+SidesAre columns n (x ∷ (y ∷ below)) r = MatchResult r (λ s. SidesOf columns below y x s) (λ e. ⊥)
 
 -- Is exactly one relation on the stack?
 abbrev pub lone : List Tree → Bool

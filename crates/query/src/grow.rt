@@ -8,7 +8,7 @@ ghost use Rattle.semantics.specs.Reading.{condition_form};
 ghost use Rattle.semantics.specs.Records as records;
 ghost use Rattle.semantics.specs.Records.{table_record, select_record, project_record, product_record, union_record, difference_record};
 ghost use Rattle.book.specs.Books.{book_model};
-ghost use Rattle.query.specs.Plans.{planned_in, record_count, Plans, laid, asked, Grew, StepIs, OnStack, Grows, SidesAre, lone};
+ghost use Rattle.query.specs.Plans.{planned_in, record_count, Plans, laid, asked, Grew, StepIs, OnStack, Grows, PartIs, SidesAre, lone};
 ghost use Rattle.query.specs.Saying.{first_said, Says, Short};
 
 use crate::kinds::Kinds;
@@ -28,13 +28,6 @@ impl Plan {
         self.records.as_slice().get(number).copied()
     }
 
-    /// What the last record has added, if there is one.
-    fn last(&self) -> Option<Planned>
-        ensures { result ≡ slice_get (planned_in self.now) (record_count self.now - 1) }
-    {
-        self.records.as_slice().last().copied()
-    }
-
     /// The number of the record that comes next, as the place of a refusal.
     pub(crate) fn place(&self) -> u8
         ensures { result ≡ record_count self.now }
@@ -42,18 +35,23 @@ impl Plan {
         place_of(self.records.len())
     }
 
-    /// The last two relations, if there are two.
-    fn sides(&self) -> Option<Sides>
-        ensures { (columns : List (List Column)) → OnStack columns self.now (λ stack. SidesAre columns stack result) }
+    /// What the last record has added: the part of a record that takes one.
+    fn part(&self) -> Result<Planned, Refusal>
+        ensures { PartIs self.now result }
     {
-        let right = self.last()?;
-        let number = right.step.start.checked_sub(1)?;
-        let left = self.planned(number)?;
-        Some(Sides {
-            number,
-            left: left.step,
-            right: right.step,
-        })
+        let last = self.records.as_slice().last().copied();
+        last.ok_or(Refusal::StackShort(self.place()))
+    }
+
+    /// The last two relations.
+    fn sides(&self) -> Result<Sides, Refusal>
+        ensures { (columns : List (List Column)) → OnStack columns self.now (λ stack. SidesAre columns (record_count self.now) stack result) }
+    {
+        let right = self.part()?.step;
+        let short = Refusal::StackShort(self.place());
+        let number = right.start.checked_sub(1).ok_or(short)?;
+        let left = self.planned(number).ok_or(short)?.step;
+        Ok(Sides { number, left, right })
     }
 
     /// A table.
@@ -78,8 +76,8 @@ impl Plan {
         ensures { (columns : List (List Column)) (c : Condition) → condition_form (WrongForm (record_count self.now)) body.now ≡ done c → Grows columns self.now (select_record c) result }
     {
         let place = self.place();
-        let part = self.last().ok_or(Refusal::StackShort(place))?;
-        let kinds = part.step.kinds;
+        let part = self.part()?.step;
+        let kinds = part.kinds;
         if !Terms::of(body).all(|term| term.is_named(&kinds)) {
             return Err(Refusal::NoSuchName(place));
         }
@@ -88,7 +86,7 @@ impl Plan {
         }
         Ok(Step {
             left: self.records.len() - 1,
-            start: part.step.start,
+            start: part.start,
             kinds,
         })
     }
@@ -99,13 +97,12 @@ impl Plan {
         requires { length listed.now ≤ 8 }
         ensures { (columns : List (List Column)) → Grows columns self.now (project_record listed.now) result }
     {
-        let place = self.place();
-        let part = self.last().ok_or(Refusal::StackShort(place))?;
-        let picked = part.step.kinds.picked(listed);
+        let part = self.part()?.step;
+        let picked = part.kinds.picked(listed);
         Ok(Step {
             left: self.records.len() - 1,
-            start: part.step.start,
-            kinds: picked.ok_or(Refusal::NoSuchName(place))?,
+            start: part.start,
+            kinds: picked.ok_or(Refusal::NoSuchName(self.place()))?,
         })
     }
 
@@ -113,13 +110,12 @@ impl Plan {
     fn product(&self) -> Result<Step, Refusal>
         ensures { (columns : List (List Column)) → Grows columns self.now product_record result }
     {
-        let place = self.place();
-        let sides = self.sides().ok_or(Refusal::StackShort(place))?;
+        let sides = self.sides()?;
         let joined = sides.left.kinds.joined(&sides.right.kinds);
         Ok(Step {
             left: sides.number,
             start: sides.left.start,
-            kinds: joined.ok_or(Refusal::ProductTooWide(place))?,
+            kinds: joined.ok_or(Refusal::ProductTooWide(self.place()))?,
         })
     }
 
@@ -128,10 +124,9 @@ impl Plan {
         ensures union { (columns : List (List Column)) → Grows columns self.now union_record result }
         ensures difference { (columns : List (List Column)) → Grows columns self.now difference_record result }
     {
-        let place = self.place();
-        let sides = self.sides().ok_or(Refusal::StackShort(place))?;
+        let sides = self.sides()?;
         if !sides.left.kinds.same(&sides.right.kinds) {
-            return Err(Refusal::Unfit(place));
+            return Err(Refusal::Unfit(self.place()));
         }
         Ok(Step {
             left: sides.number,
@@ -158,7 +153,7 @@ impl Plan {
     pub(crate) fn is_single(&self) -> bool
         ensures { (columns : List (List Column)) → OnStack columns self.now (λ stack. result ≡ lone stack) }
     {
-        self.last().is_some_and(|last| last.step.start == 0)
+        self.part().is_ok_and(|part| part.step.start == 0)
     }
 
     /// A plan without records.

@@ -20,22 +20,18 @@ impl<'q> First<'q> {
     fn said(self, place: u8) -> Result<Record<'q>, Refusal>
         ensures { SaidAs place result (said_by place (first_of self.entry)) }
     {
-        let body = self.body;
         let kind = RecordKind::try_from(self.kind).or(Err(Refusal::UnknownRecord(place)))?;
-        let said = match kind {
-            RecordKind::Table => match body {
-                [table] => Some(Record::Table(*table)),
-                _ => None,
-            },
-            RecordKind::Select => is_condition(body).then_some(Record::Select(body)),
-            RecordKind::Project => (1..=8)
-                .contains(&body.len())
-                .then_some(Record::Project(body)),
-            RecordKind::Product => body.is_empty().then_some(Record::Product),
-            RecordKind::Union => body.is_empty().then_some(Record::Union),
-            RecordKind::Difference => body.is_empty().then_some(Record::Difference),
-        };
-        said.ok_or(Refusal::WrongForm(place))
+        match (kind, self.body) {
+            (RecordKind::Table, [table]) => Ok(Record::Table(*table)),
+            (RecordKind::Select, body) if is_condition(body) => Ok(Record::Select(body)),
+            (RecordKind::Project, listed) if (1..=8).contains(&listed.len()) => {
+                Ok(Record::Project(listed))
+            }
+            (RecordKind::Product, []) => Ok(Record::Product),
+            (RecordKind::Union, []) => Ok(Record::Union),
+            (RecordKind::Difference, []) => Ok(Record::Difference),
+            _ => Err(Refusal::WrongForm(place)),
+        }
     }
 }
 

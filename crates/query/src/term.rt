@@ -15,7 +15,8 @@ use semantics::{Kind, Operator};
 
 /// What a condition record says: a comparison of a column with another, with a number or with the
 /// digits of a prefix, which stay a part of the query, or how conditions are joined.
-// One case a kind of record: a struct of operator and left column would be taken apart in each match.
+// One case a kind of record: with the right side a type of its own, each `Term::ByColumn(operator, 0, 1)` of the
+// programs would be a `Term::Comparing(operator, 0, Right::Column(1))`.
 #[derive(Clone, Copy, PartialEq, Eq, Debug)]
 pub enum Term<'q> {
     ByColumn(Operator, u8, u8),
@@ -26,65 +27,31 @@ pub enum Term<'q> {
     Not,
 }
 
-/// A comparison with a column.
-// Three readers, whose slice patterns name the bytes of each body.
-fn by_column(body: &[u8]) -> Option<Term<'_>>
-    ensures { (e : Refusal) → TermIs e result (comparison_form e (column_side e) body.now) }
-{
-    let [number, left, right] = body else {
-        return None;
-    };
-    let operator = Operator::try_from(*number).ok()?;
-    Some(Term::ByColumn(operator, *left, *right))
-}
-
-/// A comparison with a number.
-fn by_number(body: &[u8]) -> Option<Term<'_>>
-    ensures { (e : Refusal) → TermIs e result (comparison_form e (number_side e) body.now) }
-{
-    let [number, left, b0, b1, b2, b3] = body else {
-        return None;
-    };
-    let operator = Operator::try_from(*number).ok()?;
-    let right = u32::from_le_bytes([*b0, *b1, *b2, *b3]);
-    Some(Term::ByNumber(operator, *left, right))
-}
-
-/// A comparison with a prefix, whose digits are the rest of the body.
-#[tactic(auto, using(crate::proofs::Forms::prefix_said, crate::proofs::Forms::prefix_long, crate::proofs::Forms::prefix_digitless))]
-fn by_prefix(body: &[u8]) -> Option<Term<'_>>
-    ensures { (e : Refusal) → TermIs e result (comparison_form e (prefix_side e) body.now) }
-{
-    let [number, left, digits @ ..] = body else {
-        return None;
-    };
-    let operator = Operator::try_from(*number).ok()?;
-    if digits.len() > 8 || !all_digits(digits) {
-        return None;
-    }
-    Some(Term::ByPrefix(operator, *left, digits))
-}
-
-/// A term whose body must be empty.
-fn joining<'q>(term: Term<'q>, body: &[u8]) -> Option<Term<'q>>
-    ensures { (e : Refusal) → TermIs e result (empty_form e (term_of term.entry) body.now) }
-{
-    body.is_empty().then_some(term)
-}
-
 impl<'q> First<'q> {
     /// What the record says as one of a condition, if its body has the form of its kind.
+    #[tactic(auto, using(crate::proofs::Forms::prefix_said, crate::proofs::Forms::prefix_long, crate::proofs::Forms::prefix_digitless))]
     fn term(self) -> Option<Term<'q>>
         ensures { (e : Refusal) → TermIs e result (term_form e self.entry.kind self.entry.body.now) }
     {
-        let body = self.body;
-        match TermKind::try_from(self.kind).ok()? {
-            TermKind::ByColumn => by_column(body),
-            TermKind::ByNumber => by_number(body),
-            TermKind::ByPrefix => by_prefix(body),
-            TermKind::And => joining(Term::And, body),
-            TermKind::Or => joining(Term::Or, body),
-            TermKind::Not => joining(Term::Not, body),
+        match (TermKind::try_from(self.kind).ok()?, self.body) {
+            (TermKind::ByColumn, [operator, left, right]) => Some(Term::ByColumn(
+                Operator::try_from(*operator).ok()?,
+                *left,
+                *right,
+            )),
+            (TermKind::ByNumber, [operator, left, b0, b1, b2, b3]) => Some(Term::ByNumber(
+                Operator::try_from(*operator).ok()?,
+                *left,
+                u32::from_le_bytes([*b0, *b1, *b2, *b3]),
+            )),
+            (TermKind::ByPrefix, [operator, left, digits @ ..]) => {
+                let term = Term::ByPrefix(Operator::try_from(*operator).ok()?, *left, digits);
+                (digits.len() <= 8 && all_digits(digits)).then_some(term)
+            }
+            (TermKind::And, []) => Some(Term::And),
+            (TermKind::Or, []) => Some(Term::Or),
+            (TermKind::Not, []) => Some(Term::Not),
+            _ => None,
         }
     }
 }
@@ -103,12 +70,9 @@ fn takes(kind: Kind, operator: Operator) -> bool
     ensures { result ≡ takes kind operator }
 {
     match operator {
-        Operator::Equal => true,
-        Operator::Unequal => true,
-        Operator::Less => kind == Kind::Number,
-        Operator::AtMost => kind == Kind::Number,
-        Operator::Covers => kind == Kind::Prefix,
-        Operator::Shorter => kind == Kind::Prefix,
+        Operator::Equal | Operator::Unequal => true,
+        Operator::Less | Operator::AtMost => kind == Kind::Number,
+        Operator::Covers | Operator::Shorter => kind == Kind::Prefix,
     }
 }
 
@@ -126,8 +90,7 @@ impl Term<'_> {
     {
         match self {
             Term::ByColumn(_, left, right) => kinds.has(left) && kinds.has(right),
-            Term::ByNumber(_, left, _) => kinds.has(left),
-            Term::ByPrefix(_, left, _) => kinds.has(left),
+            Term::ByNumber(_, left, _) | Term::ByPrefix(_, left, _) => kinds.has(left),
             _ => true,
         }
     }

@@ -9,18 +9,17 @@ use Rattle.query.proofs.plan.Plan.project.Goals as goal
 pub returns-in_err-part : goal.returns-in_err-part
 returns-in_err-part c columns bytes stack plans =
     let p = err_from_is_err_and c.from_residual.result c.from_residual.ensures.1 in
-    let none = refused-none c.last.result _ _ c.in_err-part.ensures.value in
-    rw (p.1, p.2, none.1, c.place-place.ensures) (project_short columns bytes c.args.self.now c.args.listed.now stack plans (sym none.0 ∙ c.last.ensures))
+    rw (p.1, p.2, c.in_err-part.ensures.1) (project_short columns bytes c.args.self.now c.args.listed.now stack plans c.in_err-part.ensures.0)
 
 pub returns-in_err-ok_or : goal.returns-in_err-ok_or
 returns-in_err-ok_or c columns bytes stack plans =
     let p = err_from_is_err_and c.from_residual-in_err-ok_or.result c.from_residual-in_err-ok_or.ensures.1 in
     let none = refused-none c.picked-picked.result _ _ c.in_err-ok_or.ensures.value in
-    let unnamed = subst (λ (r : Option Kinds). PickedIs (kinds_in c.in_ok-part.part.step.kinds) c.args.listed.now r) none.0 c.picked-picked.ensures in
-    rw (p.1, p.2, none.1, c.place-place.ensures)
-    (project_unnamed columns bytes c.args.self.now c.args.listed.now stack c.in_ok-part.part plans (sym c.in_ok-part.ensures.ok_part ∙ c.last.ensures) unnamed)
+    let unnamed = subst (λ (r : Option Kinds). PickedIs (kinds_in c.in_ok-part.field-0.step.kinds) c.args.listed.now r) none.0 c.picked-picked.ensures in
+    rw (p.1, p.2, none.1, c.place.ensures)
+    (project_unnamed columns bytes c.args.self.now c.args.listed.now stack c.in_ok-part.field-0 plans c.in_ok-part.ensures unnamed)
 
 pub returns : goal.returns
 returns c columns bytes stack plans =
-    let picked = subst (λ (r : Option Kinds). PickedIs (kinds_in c.in_ok-part.part.step.kinds) c.args.listed.now r) c.in_ok-ok_or.ensures.ok_part c.picked-picked.ensures in
-    project_grew columns bytes c.args.self.now c.args.listed.now stack c.in_ok-part.part _ plans (sym c.in_ok-part.ensures.ok_part ∙ c.last.ensures) picked.0 (grind arith) refl picked.1
+    let picked = subst (λ (r : Option Kinds). PickedIs (kinds_in c.in_ok-part.field-0.step.kinds) c.args.listed.now r) c.in_ok-ok_or.ensures.ok_part c.picked-picked.ensures in
+    project_grew columns bytes c.args.self.now c.args.listed.now stack c.in_ok-part.field-0 _ plans c.in_ok-part.ensures picked.0 (grind arith) refl picked.1

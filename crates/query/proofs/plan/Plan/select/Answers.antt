@@ -7,37 +7,35 @@ use Rattle.query.specs.Kinds.{kinds_in}
 use Rattle.query.specs.Plans.{record_count}
 use Rattle.query.proofs.Asking.{all_asked}
 use Rattle.query.proofs.Laying.{select_short, select_unnamed, select_unfit, select_grew}
-use Rattle.query.proofs.Reading.{refused-none}
 use Rattle.query.proofs.plan.Plan.select.Goals as goal
 
 pub returns-in_err-part : goal.returns-in_err-part
 returns-in_err-part c columns d form bytes stack plans =
     let p = err_from_is_err_and c.from_residual.result c.from_residual.ensures.1 in
-    let none = refused-none c.last.result _ _ c.in_err-part.ensures.value in
-    rw (p.1, p.2, none.1, c.place-place.ensures) (select_short columns bytes c.args.self.now d stack plans (sym none.0 ∙ c.last.ensures))
+    rw (p.1, p.2, c.in_err-part.ensures.1) (select_short columns bytes c.args.self.now d stack plans c.in_err-part.ensures.0)
 
 pub returns-then-not-all : goal.returns-then-not-all
 returns-then-not-all c columns d form bytes stack plans =
-    let kinds = kinds_in c.in_ok-part.part.step.kinds in
+    let kinds = kinds_in c.in_ok-part.field-0.step.kinds in
     let e = WrongForm (record_count c.args.self.now) in
     let named = all_asked (named_comparison kinds) c.all.new.self _ c.all.result e c.args.body.now d form c.of.ensures c.all.ensures.ran (λ x b q k. search (rules, tests)) in
     rw c.place-place.ensures
-    (select_unnamed columns bytes c.args.self.now d stack c.in_ok-part.part plans (sym c.in_ok-part.ensures.ok_part ∙ c.last.ensures) (sym c.if-not-all.true ∙ named))
+    (select_unnamed columns bytes c.args.self.now d stack c.in_ok-part.field-0 plans c.in_ok-part.ensures (sym c.if-not-all.true ∙ named))
 
 pub returns-then-not-all-2 : goal.returns-then-not-all-2
 returns-then-not-all-2 c columns d form bytes stack plans =
-    let kinds = kinds_in c.in_ok-part.part.step.kinds in
+    let kinds = kinds_in c.in_ok-part.field-0.step.kinds in
     let e = WrongForm (record_count c.args.self.now) in
     let named = all_asked (named_comparison kinds) c.all.new.self _ c.all.result e c.args.body.now d form c.of.ensures c.all.ensures.ran (λ x b q k. search (rules, tests)) in
     let fitting = all_asked (fitting_comparison kinds) c.all-2.new.self _ c.all-2.result e c.args.body.now d form c.of-2.ensures c.all-2.ensures.ran (λ x b q k. search (rules, tests)) in
     rw c.place-place.ensures
-    (select_unfit columns bytes c.args.self.now d stack c.in_ok-part.part plans (sym c.in_ok-part.ensures.ok_part ∙ c.last.ensures) (sym c.if-not-all.false ∙ named) (sym c.if-not-all-2.true ∙ fitting))
+    (select_unfit columns bytes c.args.self.now d stack c.in_ok-part.field-0 plans c.in_ok-part.ensures (sym c.if-not-all.false ∙ named) (sym c.if-not-all-2.true ∙ fitting))
 
 pub returns : goal.returns
 returns c columns d form bytes stack plans =
-    let kinds = kinds_in c.in_ok-part.part.step.kinds in
+    let kinds = kinds_in c.in_ok-part.field-0.step.kinds in
     let e = WrongForm (record_count c.args.self.now) in
     let named = all_asked (named_comparison kinds) c.all.new.self _ c.all.result e c.args.body.now d form c.of.ensures c.all.ensures.ran (λ x b q k. search (rules, tests)) in
     let fitting = all_asked (fitting_comparison kinds) c.all-2.new.self _ c.all-2.result e c.args.body.now d form c.of-2.ensures c.all-2.ensures.ran (λ x b q k. search (rules, tests)) in
-    select_grew columns bytes c.args.self.now d stack c.in_ok-part.part _ plans (sym c.in_ok-part.ensures.ok_part ∙ c.last.ensures)
+    select_grew columns bytes c.args.self.now d stack c.in_ok-part.field-0 _ plans c.in_ok-part.ensures
     (sym c.if-not-all.false ∙ named) (sym c.if-not-all-2.false ∙ fitting) (grind arith) refl refl
