@@ -1,5 +1,5 @@
 -- The loop of the check over the records of a query.
-use Rattle.std.proofs.Common.{◌≡◌, ℕ, suc, ◌+◌, ◌-◌, ◌<◌, ◌≤◌, Bool, true, false, ◌&&◌, eqb, ltb, leb, List, [], ◌∷◌, map, length, get_or, take, drop, Some, None, Option, Result, sym, refl, ap, ◌∙◌, subst, ⊎_elim, arith}
+use Rattle.std.proofs.Common.{◌≡◌, ℕ, suc, ◌+◌, ◌-◌, ◌<◌, ◌≤◌, Bool, true, false, ◌&&◌, ◌↔◌, IsTrue, eqb, ltb, leb, List, [], ◌∷◌, map, length, get_or, take, drop, Some, None, Option, Result, sym, refl, ap, ◌∙◌, subst, ⊎_elim, arith}
 use Rattle.std.proofs.lemmas.List.{drop-drop, length-drop, length-take, drop_all, get_or-map}
 use Rattle.std.proofs.lemmas.Bool.{eqb-true, lt-ltb, le-ltb, leb-true}
 use Rattle.semantics.specs.declared.kind.Column.{Column}
@@ -166,6 +166,10 @@ module _ (columns : List (List Column)) (n : ℕ) (stack : List Tree) (said : Re
 
 pub few-records : (plan : Plan) → record_count plan ≤ 15
 few-records plan = omega (arith, length-take plan.records.count plan.records.places, plan.records.within)
+
+-- where a plan is not full, there is room
+pub room : (plan : Plan) (full : Bool) → IsTrue full ↔ (record_count plan ≡ 15) → full ≡ false → record_count plan < 15
+room plan full is h = grind (arith, few-records plan, is.1, h)
 
 -- a record of a plan is read again
 module _ (plan : Plan) (bs : List ℕ) (i : ℕ) where

@@ -1,5 +1,5 @@
 -- The forms of comparisons, by the length of the body.
-use Rattle.std.proofs.Common.{◌≡◌, ℕ, ◌-◌, ◌<◌, ◌≤◌, true, false, ◌&&◌, leb, List, [], ◌∷◌, length, get_or, take, drop, Some, sym, refl, ◌∙◌, arith}
+use Rattle.std.proofs.Common.{◌≡◌, ℕ, ◌-◌, ◌≤◌, true, false, ◌&&◌, leb, List, [], ◌∷◌, length, get_or, take, drop, Some, sym, refl, ◌∙◌, arith}
 use Rattle.semantics.specs.declared.operator.Operator.{Operator}
 use Rattle.semantics.specs.declared.refusal.Refusal.{Refusal}
 use Rattle.semantics.specs.Conditions.{by_prefix, comparing}
@@ -9,7 +9,6 @@ use Rattle.semantics.specs.Lists.{every}
 use Rattle.semantics.specs.Reading.{prefix_side, comparison_form}
 use Rattle.semantics.specs.Values.{is_digit}
 use Rattle.std.proofs.lemmas.List.{take_rest}
-use Rattle.std.proofs.lemmas.Bool.{and_from, le-leb, and_left, and_right, lt-leb}
 
 -- comparisons with a prefix
 module _ (e : Refusal) where
@@ -19,20 +18,12 @@ module _ (e : Refusal) where
   prefix-form (o ∷ (l ∷ body)) h = refl
 
   -- the digits as the slice is cut
-  pub prefix_said : (body : List ℕ) (op : Operator) → 2 ≤ length body → Some op ≡ operator_from (get_or body 0 0) → length (take (length body - 2) (drop 2 body)) ≤ 8 → every is_digit (take (length body - 2) (drop 2 body)) ≡ true → comparison_form e (prefix_side e) body ≡ done (comparing (by_prefix op (get_or body 1 0) (take (length body - 2) (drop 2 body))))
-  prefix_said body op h o l d =
-      let b : take (length body - 2) (drop 2 body) ≡ drop 2 body = take_rest body 2 in
-      let t : (leb (length (drop 2 body)) 8 && every is_digit (drop 2 body)) ≡ true = and_from _ _ (le-leb _ _ (rw b at l)) (rw b at d) in
-      rw b (prefix-form body h ∙ rw (sym o, t))
+  module _ (body : List ℕ) (op : Operator) (long : 2 ≤ length body) (is : Some op ≡ operator_from (get_or body 0 0)) where
+    cut : take (length body - 2) (drop 2 body) ≡ drop 2 body
+    cut = take_rest body 2
 
-  pub prefix_long : (body : List ℕ) (op : Operator) → 2 ≤ length body → Some op ≡ operator_from (get_or body 0 0) → 8 < length (take (length body - 2) (drop 2 body)) → comparison_form e (prefix_side e) body ≡ refuse e
-  prefix_long body op h o l =
-      let b : take (length body - 2) (drop 2 body) ≡ drop 2 body = take_rest body 2 in
-      let t : (leb (length (drop 2 body)) 8 && every is_digit (drop 2 body)) ≡ false = and_left _ _ (lt-leb _ _ (rw b at l)) in
-      prefix-form body h ∙ rw (sym o, t)
+    pub prefix_said : (leb (length (take (length body - 2) (drop 2 body))) 8 && every is_digit (take (length body - 2) (drop 2 body))) ≡ true → comparison_form e (prefix_side e) body ≡ done (comparing (by_prefix op (get_or body 1 0) (take (length body - 2) (drop 2 body))))
+    prefix_said h = let t : (leb (length (drop 2 body)) 8 && every is_digit (drop 2 body)) ≡ true = rw cut at h in rw cut (prefix-form body long ∙ rw (sym is, t))
 
-  pub prefix_digitless : (body : List ℕ) (op : Operator) → 2 ≤ length body → Some op ≡ operator_from (get_or body 0 0) → every is_digit (take (length body - 2) (drop 2 body)) ≡ false → comparison_form e (prefix_side e) body ≡ refuse e
-  prefix_digitless body op h o d =
-      let b : take (length body - 2) (drop 2 body) ≡ drop 2 body = take_rest body 2 in
-      let t : (leb (length (drop 2 body)) 8 && every is_digit (drop 2 body)) ≡ false = and_right _ _ (rw b at d) in
-      prefix-form body h ∙ rw (sym o, t)
+    pub prefix_refused : (leb (length (take (length body - 2) (drop 2 body))) 8 && every is_digit (take (length body - 2) (drop 2 body))) ≡ false → comparison_form e (prefix_side e) body ≡ refuse e
+    prefix_refused h = let t : (leb (length (drop 2 body)) 8 && every is_digit (drop 2 body)) ≡ false = rw cut at h in prefix-form body long ∙ rw (sym is, t)

@@ -51,7 +51,11 @@ impl Plan {
         let short = Refusal::StackShort(self.place());
         let number = right.start.checked_sub(1).ok_or(short)?;
         let left = self.planned(number).ok_or(short)?.step;
-        Ok(Sides { number, left, right })
+        Ok(Sides {
+            number,
+            left,
+            right,
+        })
     }
 
     /// A table.

@@ -26,7 +26,7 @@ pub fn check(query: &[u8], book: &Book) -> Result<Plan, Refusal>
     let mut rest = query;
     while !rest.is_empty() {
         let place = plan.place();
-        if plan.count() == 15 {
+        if plan.records.is_full() {
             return Err(Refusal::TooManyRecords(place));
         }
         let (said, behind) = Reader { rest, place }.read()?;
@@ -87,7 +87,18 @@ mod tests {
     use crate::record::Record;
     use book::{Book, Draft};
     use cells::Cell;
+    use semantics::Refusal;
     use std::test::Fail;
+
+    /// Table 0 has a prefix and this many numbers.
+    fn columns(numbers: usize) -> Result<Draft, Refusal> {
+        let mut draft = Draft::new();
+        draft.declare(0, 2, 1)?;
+        for _ in 0..numbers {
+            draft.declare(0, 1, 0)?;
+        }
+        Ok(draft)
+    }
 
     /// The number and the place that a query is refused with, if it is.
     fn refused(query: &[u8], book: &Book) -> Option<(u8, u8)> {
@@ -97,12 +108,8 @@ mod tests {
 
     #[test]
     fn longest_prefix(rt: HostRuntime) -> Result<(), Fail> {
-        let mut draft = Draft::new();
-        draft.declare(0, 2, 1)?;
-        draft.declare(0, 1, 0)?;
-        draft.declare(0, 1, 0)?;
         let mut cells = [Cell::Number(0); 96];
-        let book = draft.open(&mut cells);
+        let book = columns(2)?.open(&mut cells);
         let query = [
             1, 0, 1, 0, 0, 11, 0, 2, 0, 7, 0, 18, 0, 5, 0, 52, 55, 49, 49, 48, 1, 0, 1, 0, 0, 11,
             0, 2, 0, 7, 0, 18, 0, 5, 0, 52, 55, 49, 49, 48, 1, 0, 1, 0, 0, 11, 0, 2, 0, 7, 0, 18,
@@ -125,11 +132,8 @@ mod tests {
 
     #[test]
     fn refusals(rt: HostRuntime) -> Result<(), Fail> {
-        let mut draft = Draft::new();
-        draft.declare(0, 2, 1)?;
-        draft.declare(0, 1, 0)?;
         let mut cells = [Cell::Number(0); 96];
-        let book = draft.open(&mut cells);
+        let book = columns(1)?.open(&mut cells);
         assert_eq!(rt; refused(&[], &book), Some((11, 0)));
         assert_eq!(rt; refused(&[1, 0, 1, 0], &book), Some((13, 0)));
         assert_eq!(rt; refused(&[0, 0, 1, 1], &book), Some((14, 0)));

@@ -10,7 +10,7 @@ ghost use Rattle.query.specs.Terms.{passes, term_of, TermIs, first_term, FirstTe
 use crate::first::{First, first_record};
 use crate::kind::TermKind;
 use crate::kinds::Kinds;
-use cells::all_digits;
+use cells::is_prefix;
 use semantics::{Kind, Operator};
 
 /// What a condition record says: a comparison of a column with another, with a number or with the
@@ -29,7 +29,7 @@ pub enum Term<'q> {
 
 impl<'q> First<'q> {
     /// What the record says as one of a condition, if its body has the form of its kind.
-    #[tactic(auto, using(crate::proofs::Forms::prefix_said, crate::proofs::Forms::prefix_long, crate::proofs::Forms::prefix_digitless))]
+    #[tactic(auto, using(crate::proofs::Forms::prefix_said, crate::proofs::Forms::prefix_refused))]
     fn term(self) -> Option<Term<'q>>
         ensures { (e : Refusal) → TermIs e result (term_form e self.entry.kind self.entry.body.now) }
     {
@@ -46,7 +46,7 @@ impl<'q> First<'q> {
             )),
             (TermKind::ByPrefix, [operator, left, digits @ ..]) => {
                 let term = Term::ByPrefix(Operator::try_from(*operator).ok()?, *left, digits);
-                (digits.len() <= 8 && all_digits(digits)).then_some(term)
+                is_prefix(digits).then_some(term)
             }
             (TermKind::And, []) => Some(Term::And),
             (TermKind::Or, []) => Some(Term::Or),

@@ -10,7 +10,7 @@ use Rattle.book.specs.Books.{book_model}
 use Rattle.query.specs.Plans.{record_count, Plans, asked, Grew}
 use Rattle.query.specs.Saying.{First, first_said, ReadAs}
 use Rattle.query.proofs.Laying.{plans_none}
-use Rattle.query.proofs.Checking.{few-records, walk-many, walk_end, long-enough, wrong_length, some_left, none_left, short-said, lone-done, lone_not, said-rest, end_of_end, went_unsaid, went-unasked, went_on}
+use Rattle.query.proofs.Checking.{room, walk-many, walk_end, long-enough, wrong_length, some_left, none_left, short-said, lone-done, lone_not, said-rest, end_of_end, went_unsaid, went-unasked, went_on}
 use Rattle.query.proofs.questions.check.Goals as goal
 
 pub returns-then-not-contains-clause-plan : goal.returns-then-not-contains-clause-plan
@@ -30,13 +30,13 @@ loop-rest-init c =
       ([], plans, ap (λ m. walk query_faults (record_step columns) (15 - m) m [] c.args.query.now) z ∙ sym (long-enough columns c.args.query.now sized)),
     )
 
-pub returns-then-count-eq15-clause-plan : goal.returns-then-count-eq15-clause-plan
-returns-then-count-eq15-clause-plan c =
+pub returns-then-is_full-clause-plan : goal.returns-then-is_full-clause-plan
+returns-then-is_full-clause-plan c =
     let i = c.loop-rest.invariant.2 in
     rw c.place-place.ensures
     (sym i.2
     ∙ walk-many (book_model c.args.book.now).columns (15 - record_count c.loop-rest.plan) (record_count c.loop-rest.plan) i.0 c.loop-rest.rest.now
-    (omega (arith, c.count.ensures.value)) (some_left c.loop-rest.rest.now c.loop-rest-test.ensures))
+    (omega (arith, c.is_full.ensures.0 c.if-is_full.true)) (some_left c.loop-rest.rest.now c.loop-rest-test.ensures))
 
 pub returns-in_err-said-clause-plan : goal.returns-in_err-said-clause-plan
 returns-in_err-said-clause-plan c =
@@ -44,13 +44,13 @@ returns-in_err-said-clause-plan c =
     let p = err_from_is_err_and c.from_residual.result c.from_residual.ensures.1 in
     rw (p.1, p.2)
     (sym i.2
-    ∙ went_unsaid (book_model c.args.book.now).columns (record_count c.loop-rest.plan) i.0 c.loop-rest.rest.now (omega (arith, few-records c.loop-rest.plan)) (some_left c.loop-rest.rest.now c.loop-rest-test.ensures) _
+    ∙ went_unsaid (book_model c.args.book.now).columns (record_count c.loop-rest.plan) i.0 c.loop-rest.rest.now (room c.loop-rest.plan c.is_full.result c.is_full.ensures c.if-is_full.false) (some_left c.loop-rest.rest.now c.loop-rest-test.ensures) _
     (subst (λ (m : ℕ). first_said m c.loop-rest.rest.now ≡ refuse c.in_err-said.field-0.0) c.place-place.ensures c.in_err-said.ensures))
 
 pub grow-requires : goal.grow-requires
 grow-requires c =
     let f = subst (λ (m : ℕ). ReadAs m (Ok (c.in_ok-said.said, c.in_ok-said.behind)) (first_said m c.loop-rest.rest.now)) c.place-place.ensures c.in_ok-said.ensures in
-    (omega (arith, few-records c.loop-rest.plan), short-said (record_count c.loop-rest.plan) c.in_ok-said.said f.0.says f.2)
+    (room c.loop-rest.plan c.is_full.result c.is_full.ensures c.if-is_full.false, short-said (record_count c.loop-rest.plan) c.in_ok-said.said f.0.says f.2)
 
 pub returns-in_err-step-clause-plan : goal.returns-in_err-step-clause-plan
 returns-in_err-step-clause-plan c =
@@ -59,7 +59,7 @@ returns-in_err-step-clause-plan c =
     let p = err_from_is_err_and c.from_residual-in_err-step.result c.from_residual-in_err-step.ensures.1 in
     rw (p.1, p.2)
     (sym i.2
-    ∙ went-unasked (book_model c.args.book.now).columns (record_count c.loop-rest.plan) i.0 c.loop-rest.rest.now (omega (arith, few-records c.loop-rest.plan)) (some_left c.loop-rest.rest.now c.loop-rest-test.ensures) f.0 _ f.1
+    ∙ went-unasked (book_model c.args.book.now).columns (record_count c.loop-rest.plan) i.0 c.loop-rest.rest.now (room c.loop-rest.plan c.is_full.result c.is_full.ensures c.if-is_full.false) (some_left c.loop-rest.rest.now c.loop-rest-test.ensures) f.0 _ f.1
     (c.in_err-step.ensures f.0.says f.2 c.args.query.now i.0 i.1))
 
 pub loop-rest-preserved : goal.loop-rest-preserved
@@ -74,7 +74,7 @@ loop-rest-preserved c =
     let f : First = r.0 in
     let said : first_said n rest ≡ done f = r.1 in
     let s = said-rest n rest f said in
-    let few : n < 15 = omega (arith, few-records c.loop-rest.plan) in
+    let few : n < 15 = room c.loop-rest.plan c.is_full.result c.is_full.ensures c.if-is_full.false in
     let g : Grew columns stack c.in_ok-step.step f.says (asked columns n stack f.says) = c.in_ok-step.ensures f.says r.2 q stack v.2.1 in (
       omega (arith, ap length r.3, s.0, v.0),
       subst (λ (b : List ℕ). drop (length q - length b) q ≡ b) (sym r.3) (end_of_end q rest f.rest v.0 v.1 s.0 s.1),
@@ -112,8 +112,8 @@ returns-clause-plan c =
 pub returns-then-not-contains-clause-exact : goal.returns-then-not-contains-clause-exact
 returns-then-not-contains-clause-exact c = reads_exactly
 
-pub returns-then-count-eq15-clause-exact : goal.returns-then-count-eq15-clause-exact
-returns-then-count-eq15-clause-exact c = reads_exactly
+pub returns-then-is_full-clause-exact : goal.returns-then-is_full-clause-exact
+returns-then-is_full-clause-exact c = reads_exactly
 
 pub returns-in_err-said-clause-exact : goal.returns-in_err-said-clause-exact
 returns-in_err-said-clause-exact c = reads_exactly

@@ -1,4 +1,4 @@
-use Rattle.std.proofs.Common.{arith, refl, sym, subst, Option, ◌∙◌}
+use Rattle.std.proofs.Common.{arith, refl, subst, Option}
 use Rattle.std.proofs.lemmas.Result.{err_from_is_err_and}
 use Rattle.query.specs.declared.kinds.Kinds.{Kinds}
 use Rattle.query.specs.Kinds.{kinds_in, PickedIs}
