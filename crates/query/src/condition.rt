@@ -9,7 +9,8 @@ use crate::term::first_term;
 pub(crate) fn is_condition(body: &[u8]) -> bool
     ensures { (e : Refusal) → Decided result e (condition_form e body.now) }
 {
-    // `Terms` does not say where the terms end, and here the bytes must end with them.
+    // Tried by `next` of `Terms`: that the bytes end with the terms wants a clause more there, with which the `for` over
+    // the terms in `compare` no longer proves.
     let mut rest = body;
     let mut depth = 0;
     for _ in 0..15usize {

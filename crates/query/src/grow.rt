@@ -75,7 +75,7 @@ impl Plan {
     }
 
     /// A selection from the last relation.
-    // A premise and no type: the form was asked when the record was read, and bytes carry no proof of it.
+    // A premise and no type for bytes of that form: `Record` is public, and may be made of any bytes.
     fn select(&self, body: &[u8]) -> Result<Step, Refusal>
         ensures { (columns : List (List Column)) (c : Condition) → condition_form (WrongForm (record_count self.now)) body.now ≡ done c → Grows columns self.now (select_record c) result }
     {
