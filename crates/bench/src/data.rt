@@ -79,10 +79,9 @@ fn store_prefixes(
     first: u32,
     last: u32,
 ) -> anyhow::Result<()> {
-    let mut row = [Cell::ZERO; 8];
-    for (cell, step) in row.iter_mut().zip([0, 1, 2, 3, 4, 5, 6, last]) {
-        *cell = Cell::Prefix(decimal(heap, first.wrapping_add(step))?);
-    }
+    let row = [0, 1, 2, 3, 4, 5, 6, last].try_map(|step| -> anyhow::Result<Cell> {
+        Ok(Cell::Prefix(decimal(heap, first.wrapping_add(step))?))
+    })?;
     book.store(table, &row)?;
     Ok(())
 }

@@ -11,30 +11,35 @@ const PRICE: u8 = 1;
 /// The column of a tariff's carrier.
 const CARRIER: u8 = 2;
 
+/// The tariffs for which a condition holds.
+fn selected(heap: Global, condition: &[Term<'_>]) -> Result<Query, WriteError> {
+    let mut query = Query::new(heap);
+    query.table(2)?;
+    query.select(condition)?;
+    Ok(query)
+}
+
 /// Tariffs of the carriers 0 to 3, where even columns are shown: 4 carriers of 16 rows each, so 64
 /// certain.
 pub(crate) fn select(heap: Global) -> Result<Query, WriteError> {
-    let mut query = Query::new(heap);
-    query.table(2)?;
-    query.select(&[Term::ByNumber(Operator::Less, CARRIER, 4)])?;
-    Ok(query)
+    selected(heap, &[Term::ByNumber(Operator::Less, CARRIER, 4)])
 }
 
 /// Tariffs with a carrier below 8 and a price below 2000, or not with a carrier below 12, where prices
 /// are hidden. Carriers 0 to 7: the price is unknown, so 8 x 16 = 128 possible. Carriers 8 to 11: none.
 /// Carriers 12 to 15: 4 x 16 = 64 certain.
 pub(crate) fn conditions(heap: Global) -> Result<Query, WriteError> {
-    let mut query = Query::new(heap);
-    query.table(2)?;
-    query.select(&[
-        Term::ByNumber(Operator::Less, CARRIER, 8),
-        Term::ByNumber(Operator::Less, PRICE, 2000),
-        Term::And,
-        Term::ByNumber(Operator::Less, CARRIER, 12),
-        Term::Not,
-        Term::Or,
-    ])?;
-    Ok(query)
+    selected(
+        heap,
+        &[
+            Term::ByNumber(Operator::Less, CARRIER, 8),
+            Term::ByNumber(Operator::Less, PRICE, 2000),
+            Term::And,
+            Term::ByNumber(Operator::Less, CARRIER, 12),
+            Term::Not,
+            Term::Or,
+        ],
+    )
 }
 
 /// The carriers of all tariffs, where they are shown: 16 certain, and 240 repeats.
@@ -49,10 +54,10 @@ pub(crate) fn project(heap: Global) -> Result<Query, WriteError> {
 /// certain, as many as a workspace holds.
 pub(crate) fn product(heap: Global) -> Result<Query, WriteError> {
     let mut query = Query::new(heap);
-    query.table(2)?;
-    query.select(&[Term::ByNumber(Operator::Less, CARRIER, 1)])?;
-    query.table(2)?;
-    query.select(&[Term::ByNumber(Operator::Less, CARRIER, 2)])?;
+    for bound in [1, 2] {
+        query.table(2)?;
+        query.select(&[Term::ByNumber(Operator::Less, CARRIER, bound)])?;
+    }
     query.product()?;
     Ok(query)
 }
@@ -69,9 +74,9 @@ fn add_covering(query: &mut Query) -> Result<(), WriteError> {
 /// and 255 have a prefix that covers it, of which 2 and 25 are shorter than another: 1 certain.
 pub(crate) fn longest(heap: Global) -> Result<Query, WriteError> {
     let mut query = Query::new(heap);
-    add_covering(&mut query)?;
-    add_covering(&mut query)?;
-    add_covering(&mut query)?;
+    for _ in 0..3 {
+        add_covering(&mut query)?;
+    }
     query.product()?;
     query.select(&[Term::ByColumn(Operator::Shorter, 0, 4)])?;
     query.project(&[0, 1, 2, 3])?;

@@ -11,23 +11,23 @@ pub(crate) struct InWords<T>(pub(crate) T);
 
 impl fmt::Display for InWords<Kind> {
     fn fmt<W: fmt::Write>(&self, f: &mut fmt::Formatter<W>) -> fmt::Result {
-        match self.0 {
-            Kind::Number => write!(f, "number"),
-            Kind::Prefix => write!(f, "prefix"),
-        }
+        f.write_str(match self.0 {
+            Kind::Number => "number",
+            Kind::Prefix => "prefix",
+        })
     }
 }
 
 impl fmt::Display for InWords<Operator> {
     fn fmt<W: fmt::Write>(&self, f: &mut fmt::Formatter<W>) -> fmt::Result {
-        match self.0 {
-            Operator::Equal => write!(f, "equal to"),
-            Operator::Unequal => write!(f, "unequal to"),
-            Operator::Less => write!(f, "less than"),
-            Operator::AtMost => write!(f, "at most"),
-            Operator::Covers => write!(f, "covers"),
-            Operator::Shorter => write!(f, "shorter than"),
-        }
+        f.write_str(match self.0 {
+            Operator::Equal => "equal to",
+            Operator::Unequal => "unequal to",
+            Operator::Less => "less than",
+            Operator::AtMost => "at most",
+            Operator::Covers => "covers",
+            Operator::Shorter => "shorter than",
+        })
     }
 }
 

@@ -32,6 +32,8 @@ pub(crate) fn tariffs(rt: &HostRuntime, book: &Book<'_>) -> anyhow::Result<()> {
 }
 
 /// Customer 501 and 502 let brokers see their offers, and which offers are one customer's, but not whose.
+// Here and in `worked`: a function of the two belongs to `tariffs`, where the proof of a set that
+// `array::from_fn` makes did not close.
 fn consents() -> Result<Consents, Refusal> {
     let mut consents = Consents::new();
     let shown = array::from_fn(|column| column == 1);
@@ -51,10 +53,10 @@ fn columns() -> Result<Draft, Refusal> {
 
 /// Four offers, the last to a customer who has consented to nothing.
 fn store(book: &mut Book<'_>) -> Result<(), Refusal> {
-    book.store(3, &[Cell::Number(501), Cell::Number(3100)])?;
-    book.store(3, &[Cell::Number(502), Cell::Number(2750)])?;
-    book.store(3, &[Cell::Number(501), Cell::Number(2900)])?;
-    book.store(3, &[Cell::Number(503), Cell::Number(2600)])
+    for offer in [[501, 3100], [502, 2750], [501, 2900], [503, 2600]] {
+        book.store(3, &offer.map(Cell::Number))?;
+    }
+    Ok(())
 }
 
 /// The offers as any broker sees them.

@@ -12,6 +12,9 @@ use tariffs::{filters, store, tariff_columns, written};
 use view::{Masked, View};
 use writing::{Query, WriteError};
 
+/// Holds for a tariff whose prefix covers 47110.
+const COVERS: Term<'static> = Term::ByPrefix(Operator::Covers, 0, b"47110");
+
 /// The three tariffs.
 fn fill(book: &mut Book<'_>) -> Result<(), Refusal> {
     store(book, 0, b"47", 1, 3100)?;
@@ -27,39 +30,32 @@ fn projected(heap: Global, columns: &[u8]) -> Result<Query, WriteError> {
     Ok(query)
 }
 
+/// The tariffs for which a condition holds.
+fn selected(heap: Global, condition: &[Term<'_>]) -> Result<Query, WriteError> {
+    let mut query = Query::new(heap);
+    query.table(0)?;
+    query.select(condition)?;
+    Ok(query)
+}
+
 /// Adds the tariffs whose prefix covers 47110.
 // Here and in `bench`: a function of the two, by table, digits and columns, belongs to a library, where its
 // contract says the ten records once more.
 fn add_covering(query: &mut Query) -> Result<(), WriteError> {
     query.table(0)?;
-    query.select(&[Term::ByPrefix(Operator::Covers, 0, b"47110")])
-}
-
-/// The tariffs whose prefix covers 47110.
-fn covering(heap: Global) -> Result<Query, WriteError> {
-    let mut query = Query::new(heap);
-    add_covering(&mut query)?;
-    Ok(query)
+    query.select(&[COVERS])
 }
 
 /// The tariffs whose prefix covers 47110, less those of them with a shorter prefix than another.
 fn longest(heap: Global) -> Result<Query, WriteError> {
     let mut query = Query::new(heap);
-    add_covering(&mut query)?;
-    add_covering(&mut query)?;
-    add_covering(&mut query)?;
+    for _ in 0..3 {
+        add_covering(&mut query)?;
+    }
     query.product()?;
     query.select(&[Term::ByColumn(Operator::Shorter, 0, 3)])?;
     query.project(&[0, 1, 2])?;
     query.difference()?;
-    Ok(query)
-}
-
-/// The tariffs whose prefix is equal to itself.
-fn reflexive(heap: Global) -> Result<Query, WriteError> {
-    let mut query = Query::new(heap);
-    query.table(0)?;
-    query.select(&[Term::ByColumn(Operator::Equal, 0, 0)])?;
     Ok(query)
 }
 
@@ -112,18 +108,23 @@ impl Asking<'_, '_> {
         let heap = rt.alloc();
         let all = "    prefix   carrier     price";
         let some = "   carrier     price";
-        println!(rt; "Broker 7: the carrier and the price of each tariff.")?;
-        self.ask(1920, &projected(heap, &[1, 2])?, some)?;
-        println!(rt; "Broker 7: the tariffs whose prefix covers 47110.")?;
-        self.ask(1920, &covering(heap)?, all)?;
-        println!(rt; "Broker 7: the tariffs with the longest prefix that covers 47110.")?;
-        self.ask(1920, &longest(heap)?, all)?;
-        println!(rt; "Broker 7: the tariffs whose prefix is equal to itself.")?;
-        self.ask(1920, &reflexive(heap)?, all)?;
-        println!(rt;
-            "Broker 7: the carrier and the price of each tariff, with a workspace for two rows."
-        )?;
-        self.ask(719, &projected(heap, &[1, 2])?, some)
+        let equal = Term::ByColumn(Operator::Equal, 0, 0);
+        for (what, cells, query, names) in [
+            ("the carrier and the price of each tariff.", 1920, projected(heap, &[1, 2])?, some),
+            ("the tariffs whose prefix covers 47110.", 1920, selected(heap, &[COVERS])?, all),
+            ("the tariffs with the longest prefix that covers 47110.", 1920, longest(heap)?, all),
+            ("the tariffs whose prefix is equal to itself.", 1920, selected(heap, &[equal])?, all),
+            (
+                "the carrier and the price of each tariff, with a workspace for two rows.",
+                719,
+                projected(heap, &[1, 2])?,
+                some,
+            ),
+        ] {
+            println!(rt; "Broker 7: {what}")?;
+            self.ask(cells, &query, names)?;
+        }
+        Ok(())
     }
 
     /// What broker 8 asks, who may see nothing.

@@ -29,7 +29,7 @@ fn columns() -> Result<Draft, Refusal> {
 }
 
 /// Puts the query of each line to the book that the line names.
-fn lines(desk: &mut Desk<'_>, short: &Book<'_>, tall: &Book<'_>) -> anyhow::Result<()> {
+fn lines<'b>(desk: &mut Desk<'_>, short: &'b Book<'b>, tall: &'b Book<'b>) -> anyhow::Result<()> {
     let rt = desk.rt;
     for line in rt.lines(rt.alloc()) {
         let line = line?;
@@ -38,11 +38,11 @@ fn lines(desk: &mut Desk<'_>, short: &Book<'_>, tall: &Book<'_>) -> anyhow::Resu
             .split_once(':')
             .context("a line without a colon")?;
         let asked = Asked::read(rt.alloc(), words)?;
-        // The proof did not close with the book picked first: the two references have two lifetimes.
-        match asked.stock {
-            Stock::Short => desk.put(name, short, &asked)?,
-            Stock::Tall => desk.put(name, tall, &asked)?,
-        }
+        let book = match asked.stock {
+            Stock::Short => short,
+            Stock::Tall => tall,
+        };
+        desk.put(name, book, &asked)?;
     }
     Ok(())
 }

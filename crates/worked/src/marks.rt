@@ -82,6 +82,8 @@ fn set(columns: &[usize]) -> [bool; 8] {
 }
 
 /// A customer's consent.
+// Here and in `sample`: a function of the two belongs to `tariffs`, where the proof of a set that
+// `array::from_fn` makes did not close.
 fn consent(key: u32, shown: &[usize], linked: &[usize]) -> Consent {
     Consent {
         key,
@@ -90,24 +92,33 @@ fn consent(key: u32, shown: &[usize], linked: &[usize]) -> Consent {
     }
 }
 
+/// The register with these entries.
+fn register(entries: &[Consent]) -> Result<Consents, Refusal> {
+    let mut consents = Consents::new();
+    for entry in entries {
+        consents.set(*entry)?;
+    }
+    Ok(consents)
+}
+
 /// Customer 14 consents to nothing, and customer 13 has a linked column that is in no domain.
 fn first_consents() -> Result<Consents, Refusal> {
-    let mut consents = Consents::new();
-    consents.set(consent(10, &[0], &[1, 2, 3, 4, 5]))?;
-    consents.set(consent(11, &[0, 1], &[2, 3, 5]))?;
-    consents.set(consent(12, &[0], &[1, 3, 4, 5]))?;
-    consents.set(consent(13, &[], &[0, 1, 2]))?;
-    Ok(consents)
+    register(&[
+        consent(10, &[0], &[1, 2, 3, 4, 5]),
+        consent(11, &[0, 1], &[2, 3, 5]),
+        consent(12, &[0], &[1, 3, 4, 5]),
+        consent(13, &[], &[0, 1, 2]),
+    ])
 }
 
 /// Customer 13 consents to nothing.
 fn second_consents() -> Result<Consents, Refusal> {
-    let mut consents = Consents::new();
-    consents.set(consent(10, &[0], &[1, 2, 3, 4, 5]))?;
-    consents.set(consent(11, &[], &[0, 1, 2, 3, 4, 5]))?;
-    consents.set(consent(12, &[1, 3], &[2, 3, 4]))?;
-    consents.set(consent(14, &[0], &[1, 2, 3, 4, 5]))?;
-    Ok(consents)
+    register(&[
+        consent(10, &[0], &[1, 2, 3, 4, 5]),
+        consent(11, &[], &[0, 1, 2, 3, 4, 5]),
+        consent(12, &[1, 3], &[2, 3, 4]),
+        consent(14, &[0], &[1, 2, 3, 4, 5]),
+    ])
 }
 
 /// The policy of both books.

@@ -86,7 +86,7 @@ pub(crate) fn short(book: &mut Book<'_>) -> Result<(), Refusal> {
 pub(crate) fn tall(book: &mut Book<'_>) -> Result<(), Refusal> {
     store(book, 1, b"4711", 5, 6)?;
     for row in 0..256 {
-        // Digit by digit, as an offer has the last ones alone, with leading zeros.
+        // Digit by digit: `format!` with leading zeros wants a heap, and a proof that three are written.
         let hundreds = last_digit(row / 100);
         let tens = last_digit(row / 10);
         let ones = last_digit(row);

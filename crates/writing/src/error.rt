@@ -2,29 +2,19 @@ ghost use Rattle.std.specs.Prelude.{◌≡◌};
 ghost use Rattle.writing.specs.declared.error.WriteError.TheVariants.{OutOfMemory, TooLong};
 
 use std::alloc::{AllocError, AllocFailed};
-use std::error::Error;
-use std::fmt;
 use std::num::TryFromIntError;
+use thiserror::Error;
 
 /// Why a record is not written.
-#[derive(Clone, Copy, PartialEq, Eq, Debug)]
+#[derive(Clone, Copy, PartialEq, Eq, Debug, Error)]
 pub enum WriteError {
     /// Its body is longer than 65,535 bytes.
+    #[error("a record is longer than 65,535 bytes")]
     TooLong,
     /// There is no memory for it.
+    #[error("out of memory")]
     OutOfMemory,
 }
-
-impl fmt::Display for WriteError {
-    fn fmt<W: fmt::Write>(&self, f: &mut fmt::Formatter<W>) -> fmt::Result {
-        match self {
-            WriteError::TooLong => write!(f, "a record is longer than 65,535 bytes"),
-            WriteError::OutOfMemory => write!(f, "out of memory"),
-        }
-    }
-}
-
-impl Error for WriteError {}
 
 /// Of a length that does not fit two bytes.
 impl From<TryFromIntError> for WriteError {
