@@ -8,7 +8,7 @@ mod views;
 
 use book::{Book, Draft};
 use cells::Cell;
-use tariffs::{declare, number, prefix, store};
+use tariffs::{THREE_TARIFFS, declare, number, prefix, store};
 
 /// The columns: a prefix in domain 1, the carrier's number and the price.
 fn columns(rt: &HostRuntime, draft: &mut Draft) -> anyhow::Result<()> {
@@ -37,15 +37,10 @@ fn store_tariff(
 
 /// Three tariffs fit in 96 cells of memory, and a fourth does not.
 fn load(rt: &HostRuntime, book: &mut Book<'_>) -> anyhow::Result<()> {
-    for (digits, carrier, price) in [
-        ("47", 1, 3100),
-        ("4711", 2, 2750),
-        ("48", 1, 2900),
-        ("49", 2, 3000),
-    ] {
+    for (digits, carrier, price) in THREE_TARIFFS {
         store_tariff(rt, book, digits, carrier, price)?;
     }
-    Ok(())
+    store_tariff(rt, book, "49", 2, 3000)
 }
 
 /// A price is amended, a row struck, and its place used again.

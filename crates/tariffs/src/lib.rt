@@ -16,5 +16,5 @@ pub use columns::{declare, number, prefix, reader_columns, tariff_columns};
 pub use digits::last_digit;
 pub use hexadecimal::from_hex;
 pub use replies::{counts, written};
-pub use rows::{store, tariff};
+pub use rows::{THREE_TARIFFS, store, tariff};
 pub use rules::filters;

@@ -9,6 +9,13 @@ use book::Book;
 use cells::{Cell, Prefix};
 use semantics::Refusal;
 
+/// The tariffs of the programs: the digits of each, its carrier and its price.
+pub const THREE_TARIFFS: [(&str, u32, u32); 3] = [
+    ("47", 1, 3100),
+    ("4711", 2, 2750),
+    ("48", 1, 2900),
+];
+
 /// The row of a tariff: its prefix, the carrier and the price.
 pub fn tariff(digits: &[u8], carrier: u32, price: u32) -> Result<[Cell; 3], Refusal>
     ensures { AnswersAs (map cell_value) result (tariff_row digits.now carrier price) }

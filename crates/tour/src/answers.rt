@@ -8,7 +8,7 @@ use cells::Cell;
 use query::{Term, check};
 use semantics::{Operator, Refusal};
 use std::alloc::Global;
-use tariffs::{filters, store, tariff_columns, written};
+use tariffs::{THREE_TARIFFS, filters, store, tariff_columns, written};
 use view::{Masked, View};
 use writing::{Query, WriteError};
 
@@ -17,9 +17,10 @@ const COVERS: Term<'static> = Term::ByPrefix(Operator::Covers, 0, b"47110");
 
 /// The three tariffs.
 fn fill(book: &mut Book<'_>) -> Result<(), Refusal> {
-    store(book, 0, b"47", 1, 3100)?;
-    store(book, 0, b"4711", 2, 2750)?;
-    store(book, 0, b"48", 1, 2900)
+    for (digits, carrier, price) in THREE_TARIFFS {
+        store(book, 0, digits.as_bytes(), carrier, price)?;
+    }
+    Ok(())
 }
 
 /// Some columns of all tariffs.
@@ -110,10 +111,30 @@ impl Asking<'_, '_> {
         let some = "   carrier     price";
         let equal = Term::ByColumn(Operator::Equal, 0, 0);
         for (what, cells, query, names) in [
-            ("the carrier and the price of each tariff.", 1920, projected(heap, &[1, 2])?, some),
-            ("the tariffs whose prefix covers 47110.", 1920, selected(heap, &[COVERS])?, all),
-            ("the tariffs with the longest prefix that covers 47110.", 1920, longest(heap)?, all),
-            ("the tariffs whose prefix is equal to itself.", 1920, selected(heap, &[equal])?, all),
+            (
+                "the carrier and the price of each tariff.",
+                1920,
+                projected(heap, &[1, 2])?,
+                some,
+            ),
+            (
+                "the tariffs whose prefix covers 47110.",
+                1920,
+                selected(heap, &[COVERS])?,
+                all,
+            ),
+            (
+                "the tariffs with the longest prefix that covers 47110.",
+                1920,
+                longest(heap)?,
+                all,
+            ),
+            (
+                "the tariffs whose prefix is equal to itself.",
+                1920,
+                selected(heap, &[equal])?,
+                all,
+            ),
             (
                 "the carrier and the price of each tariff, with a workspace for two rows.",
                 719,

@@ -21,10 +21,10 @@ pub(crate) enum Standing {
 
 impl fmt::Display for Standing {
     fn fmt<W: fmt::Write>(&self, f: &mut fmt::Formatter<W>) -> fmt::Result {
-        match self {
-            Standing::Certain => f.pad("certain"),
-            Standing::Possible => f.pad("possible"),
-        }
+        f.pad(match self {
+            Standing::Certain => "certain",
+            Standing::Possible => "possible",
+        })
     }
 }
 

@@ -3,7 +3,7 @@
 use book::Book;
 use cells::{Cell, Prefix};
 use semantics::Refusal;
-use tariffs::{last_digit, store};
+use tariffs::{THREE_TARIFFS, last_digit, store};
 
 /// Stores an exchange into table 2.
 fn exchange(book: &mut Book<'_>, left: u32, right: u32, digits: &[u8]) -> Result<(), Refusal> {
@@ -38,46 +38,66 @@ fn offer(
     book.store(3, &row)
 }
 
-/// The rows of tables 0 and 1: three tariffs of different values, and six with repeats.
-fn tariffs(book: &mut Book<'_>) -> Result<(), Refusal> {
-    store(book, 0, b"47", 1, 3100)?;
-    store(book, 0, b"4711", 2, 2750)?;
-    store(book, 0, b"48", 1, 2900)?;
-    store(book, 1, b"47", 1, 3100)?;
-    store(book, 1, b"47", 1, 3100)?;
-    store(book, 1, b"4711", 2, 2750)?;
-    store(book, 1, b"", 0, 0)?;
-    store(book, 1, b"48", 1, 2900)?;
-    store(book, 1, b"4711", 1, 2900)
+/// Tariffs, some of them twice or with the prefix or the numbers of another.
+const REPEATS: [(&str, u32, u32); 6] = [
+    ("47", 1, 3100),
+    ("47", 1, 3100),
+    ("4711", 2, 2750),
+    ("", 0, 0),
+    ("48", 1, 2900),
+    ("4711", 1, 2900),
+];
+
+/// Stores tariffs into a table.
+fn store_all(
+    book: &mut Book<'_>,
+    table: usize,
+    tariffs: &[(&str, u32, u32)],
+) -> Result<(), Refusal> {
+    for (digits, carrier, price) in tariffs {
+        store(book, table, digits.as_bytes(), *carrier, *price)?;
+    }
+    Ok(())
 }
 
 /// The rows of table 2. Their prefixes are different and have eight digits each.
 fn exchanges(book: &mut Book<'_>) -> Result<(), Refusal> {
-    exchange(book, 1, 1, b"47110000")?;
-    exchange(book, 1, 2, b"47110001")?;
-    exchange(book, 2, 1, b"47120000")?;
-    exchange(book, 0, 0, b"00000000")?;
-    exchange(book, 4294967295, 0, b"48000000")?;
-    exchange(book, 2, 2, b"99999999")?;
-    exchange(book, 7, 1, b"48000001")?;
-    exchange(book, 1, 7, b"04711000")
+    for (left, right, digits) in [
+        (1, 1, "47110000"),
+        (1, 2, "47110001"),
+        (2, 1, "47120000"),
+        (0, 0, "00000000"),
+        (4294967295, 0, "48000000"),
+        (2, 2, "99999999"),
+        (7, 1, "48000001"),
+        (1, 7, "04711000"),
+    ] {
+        exchange(book, left, right, digits.as_bytes())?;
+    }
+    Ok(())
 }
 
 /// The rows of table 3.
 fn offers(book: &mut Book<'_>) -> Result<(), Refusal> {
-    offer(book, 10, b"47", b"4711", [1, 2, 1])?;
-    offer(book, 10, b"4711", b"47", [2, 1, 2])?;
-    offer(book, 11, b"47", b"47", [1, 1, 1])?;
-    offer(book, 12, b"48", b"47", [7, 1, 7])?;
-    offer(book, 12, b"", b"48", [1, 7, 1])?;
-    offer(book, 13, b"47", b"4711", [2, 2, 2])?;
-    offer(book, 14, b"4711", b"4711", [1, 2, 1])?;
-    offer(book, 11, b"48", b"4711", [7, 7, 7])
+    for (customer, from, to, numbers) in [
+        (10, "47", "4711", [1, 2, 1]),
+        (10, "4711", "47", [2, 1, 2]),
+        (11, "47", "47", [1, 1, 1]),
+        (12, "48", "47", [7, 1, 7]),
+        (12, "", "48", [1, 7, 1]),
+        (13, "47", "4711", [2, 2, 2]),
+        (14, "4711", "4711", [1, 2, 1]),
+        (11, "48", "4711", [7, 7, 7]),
+    ] {
+        offer(book, customer, from.as_bytes(), to.as_bytes(), numbers)?;
+    }
+    Ok(())
 }
 
 /// Fills the short book: three to eight rows in each table.
 pub(crate) fn short(book: &mut Book<'_>) -> Result<(), Refusal> {
-    tariffs(book)?;
+    store_all(book, 0, &THREE_TARIFFS)?;
+    store_all(book, 1, &REPEATS)?;
     exchanges(book)?;
     offers(book)
 }
