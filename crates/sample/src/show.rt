@@ -44,19 +44,14 @@ pub(crate) fn table(rt: &HostRuntime, title: &str, book: &Book<'_>) -> anyhow::R
     let limit = book.row_limit();
     println!(rt; "\n{title}: {count} of at most {limit} rows")?;
     println!(rt; "  row    prefix   carrier     price")?;
-    // By number: with `rows` and `enumerate` the proof that the count fits a usize did not close.
-    let rows: Vec<&[Cell]> = (0..count)
-        .filter_map(|row| book.row(0, row))
-        .collect(rt.alloc())?;
+    // Collected: over the iterator itself the proof that the number of a row fits a usize did not close.
+    let rows: Vec<&[Cell]> = book.rows(0).collect(rt.alloc())?;
     lines(rt, rows.as_slice())
 }
 
 /// The rows of a table as they are seen.
 pub(crate) fn view(rt: &HostRuntime, head: &str, view: &View, table: usize) -> anyhow::Result<()> {
     println!(rt; "{head}")?;
-    // By number, as above.
-    let rows: Vec<&[Masked]> = (0..view.row_count(table))
-        .filter_map(|row| view.row(table, row))
-        .collect(rt.alloc())?;
+    let rows: Vec<&[Masked]> = view.rows(table).collect(rt.alloc())?;
     lines(rt, rows.as_slice())
 }
