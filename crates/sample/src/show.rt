@@ -1,10 +1,9 @@
 //! Steps and books as a person reads them.
 
-use book::Book;
-use cells::Cell;
+use book::{Book, Walk};
 use semantics::Refusal;
 use std::fmt::Display;
-use view::{Masked, View};
+use view::View;
 
 /// A call and what it came to.
 pub(crate) fn step<T: Drop>(
@@ -30,8 +29,9 @@ fn line<T: Display>(rt: &HostRuntime, row: usize, cells: &[T]) -> anyhow::Result
 }
 
 /// Rows as lines of the table, by their numbers.
-fn lines<T: Display>(rt: &HostRuntime, rows: &[&[T]]) -> anyhow::Result<()> {
-    for (row, cells) in rows.iter().enumerate() {
+#[tactic(auto, using(book::proofs::Walking::length_rows))]
+fn lines<T: Display>(rt: &HostRuntime, rows: Walk<'_, T>) -> anyhow::Result<()> {
+    for (row, cells) in rows.enumerate() {
         line(rt, row, cells)?;
     }
     println!(rt; "")?;
@@ -44,14 +44,11 @@ pub(crate) fn table(rt: &HostRuntime, title: &str, book: &Book<'_>) -> anyhow::R
     let limit = book.row_limit();
     println!(rt; "\n{title}: {count} of at most {limit} rows")?;
     println!(rt; "  row    prefix   carrier     price")?;
-    // Collected: over the iterator itself the proof that the number of a row fits a usize did not close.
-    let rows: Vec<&[Cell]> = book.rows(0).collect(rt.alloc())?;
-    lines(rt, rows.as_slice())
+    lines(rt, book.rows(0))
 }
 
 /// The rows of a table as they are seen.
 pub(crate) fn view(rt: &HostRuntime, head: &str, view: &View, table: usize) -> anyhow::Result<()> {
     println!(rt; "{head}")?;
-    let rows: Vec<&[Masked]> = view.rows(table).collect(rt.alloc())?;
-    lines(rt, rows.as_slice())
+    lines(rt, view.rows(table))
 }
