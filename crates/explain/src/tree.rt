@@ -31,13 +31,13 @@ impl Tree<'_> {
     }
 
     /// A record, further to the right the deeper it is.
-    fn line(&self, number: usize, operation: Operation<'_>, depth: usize) -> anyhow::Result<()> {
+    fn line(&self, number: usize, operation: Operation<'_>, depth: usize) -> anyhow::Result<()>
+        requires { depth ≤ 15 }
+    {
         let rt = self.rt;
-        for _ in 0..depth {
-            print!(rt; "    ")?;
-        }
+        let indent = 4 * depth;
         let name = InWords(operation);
-        print!(rt; "{number}: {name}")?;
+        print!(rt; "{:indent$}{number}: {name}", "")?;
         if let Operation::Select(_, body) = operation {
             let condition = condition(rt.alloc(), body)?;
             print!(rt; " {condition}")?;
