@@ -37,7 +37,8 @@ impl Bound {
         requires { number < 15 }
         ensures { result ≡ slot self number }
     {
-        // the number is a usize: a type of its own would be made from and turned into one at each use
+        // a number and no type, and beside the bound: a difference asks for its right part by the other bound and another
+        // number, so a pair would be taken apart and made again at each call
         match self {
             Bound::Low => 2 * number,
             Bound::High => 2 * number + 1,

@@ -9,6 +9,7 @@ use crate::memo::Memo;
 use crate::task::Task;
 use semantics::Refusal;
 
+// Beside the like of `query`: a public one would have to ask for a bound, and each has its own.
 /// A number of records, or that of one, as the place of a refusal.
 pub(crate) fn place(number: usize) -> u8
     requires { number ≤ 15 }
@@ -31,7 +32,8 @@ pub(crate) fn overfull(task: Task, memo: &mut Memo) -> Result<(), Refusal>
     ensures limit { memo.new.slot.limit ≡ memo.old.slot.limit }
     ensures lowest { (columns : List (List Column)) (q : Tree) → Over columns task.entry.view.now task.entry.query.now task.entry.plan.now q → Held columns task.entry.view.now q memo.old.slot.work.now memo.old.found → NoneTooLong memo.old.slot.limit columns task.entry.view.now q memo.new.slot.work.now memo.new.found result }
 {
-    // no `find`: of what a closure writes nothing would be known behind it
+    // no `try_for_each`: of what a closure writes nothing would be known behind it. `evaluate` gives no refusal, as its
+    // place would be that of a part, and it is the record asked for that is refused
     for number in 0..task.plan.count() {
         let high = task.evaluate(Bound::High, memo, number);
         high.ok_or(too_many_rows(number))?;

@@ -53,6 +53,7 @@ impl Slot<'_> {
         self.rows.rows(self.work).any(|other| row == other)
     }
 
+    // None, as where any answer has too many rows: what is refused is the record, and its number is not known here.
     /// Puts a row behind the others, unless one of them is identical to it; none where there is no
     /// room for it.
     pub(crate) fn insert(&mut self, row: &[Masked]) -> Option<()>

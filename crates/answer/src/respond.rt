@@ -33,18 +33,11 @@ impl Memo<'_> {
 }
 
 /// Writes the reply, and leaves the workspace as it comes.
-fn respond(
-    view: &View,
-    plan: &Plan,
-    query: &[u8],
-    work: &mut [Masked],
-    reply: &mut [u8],
-) -> Result<usize, Refusal>
-    ensures replies { (columns : List (List Column)) (q : Tree) → Over columns view.now query.now plan.now q → Replies (replied (view_tables view.now) (length work.old) (length reply.old) q) reply.old reply.new result }
+fn respond(task: Task, work: &mut [Masked], reply: &mut [u8]) -> Result<usize, Refusal>
+    ensures replies { (columns : List (List Column)) (q : Tree) → Over columns task.entry.view.now task.entry.query.now task.entry.plan.now q → Replies (replied (view_tables task.entry.view.now) (length work.old) (length reply.old) q) reply.old reply.new result }
     ensures kept { Kept result reply.old reply.new }
 {
     let limit = (work.len() / 240).min(512);
-    let task = Task { view, plan, query };
     let rows = Block {
         first: 0,
         count: 0,
@@ -56,7 +49,7 @@ fn respond(
     };
     let rows = found(task, &mut memo)?;
     let size = memo.write(rows, reply);
-    size.ok_or(Refusal::ReplyTooLong(place(plan.count())))
+    size.ok_or(Refusal::ReplyTooLong(place(task.plan.count())))
 }
 
 /// Answers a query over a view: writes the reply with its certain and possible rows, and says how
@@ -75,7 +68,7 @@ pub fn answer(
     ensures kept { Kept result reply.old reply.new }
     ensures cleared { work.new ≡ replicate (length work.old) (Value (Number 0)) }
 {
-    let result = respond(view, plan, query, work, reply);
+    let result = respond(Task { view, plan, query }, work, reply);
     clear(work);
     result
 }

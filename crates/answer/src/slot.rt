@@ -3,6 +3,7 @@ ghost use Rattle.std.specs.Prelude.{◌+◌, ◌*◌, ◌≤◌, length};
 use view::Masked;
 use workspace::Block;
 
+// That a call keeps limit and memory (`Same`) is a clause of each and not of the type, which knows one moment alone.
 /// The place of an answer in a workspace while it is made: `limit` rows from the first of `rows` on.
 /// `rows` are those that stand there already.
 #[derive(Drop)]

@@ -10,6 +10,7 @@ use crate::slot::Slot;
 use view::View;
 use workspace::Block;
 
+// By number, as `gather` asks: over two of its three sources, which lie in the slot's own memory, no iterator can stand.
 /// A copy of a row of a view.
 fn seen(view: &View, table: usize, number: usize) -> Row
     ensures row { number < length (slice_index_or (view_tables view.now) table []) → row_of result ≡ slice_index_or (slice_index_or (view_tables view.now) table []) number [] }

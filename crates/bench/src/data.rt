@@ -20,10 +20,10 @@ use tariffs::{declare, number, prefix};
 /// The columns of all tables.
 pub(crate) fn columns() -> Result<Draft, Refusal> {
     let mut draft = Draft::new();
-    declare(&mut draft, 0, &[number(1); 8])?;
-    declare(&mut draft, 1, &[number(1); 8])?;
+    for table in [0, 1, 3] {
+        declare(&mut draft, table, &[number(1); 8])?;
+    }
     declare(&mut draft, 2, &[prefix(0), number(0), number(0), number(0)])?;
-    declare(&mut draft, 3, &[number(1); 8])?;
     Ok(draft)
 }
 

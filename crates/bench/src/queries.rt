@@ -11,6 +11,7 @@ const PRICE: u8 = 1;
 /// The column of a tariff's carrier.
 const CARRIER: u8 = 2;
 
+// Here and in `tour`, of another table: a shared one would be no shorter than its contract.
 /// The tariffs for which a condition holds.
 fn selected(heap: Global, condition: &[Term<'_>]) -> Result<Query, WriteError> {
     let mut query = Query::new(heap);

@@ -46,7 +46,7 @@ impl Slot {
         32 * self.row + 8 * self.table
     }
 
-    // Without a width: a slot has 8 cells, of any table, and the signature is promised.
+    // Without a width: a slot has 8 cells, of any table, and a table takes of them what it has columns.
     /// Its 8 cells of a memory, or as many as the memory has.
     pub fn cells<T>(self, memory: &[T]) -> &[T]
         ensures { result.now ≡ take 8 (drop (row_start self.table self.row) memory.now) }

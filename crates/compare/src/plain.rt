@@ -26,7 +26,7 @@ impl<'a> From<&'a Cell> for Plain<'a> {
 }
 
 /// Whether the first value is a number below the second.
-// No PartialOrd: prefixes have no order, and the definition has this word.
+// No PartialOrd: the impl and its laws would be longer than this, and the definition has this word.
 fn below(left: Plain<'_>, right: Plain<'_>) -> bool
     ensures { result ≡ below (plain_of left.entry) (plain_of right.entry) }
 {

@@ -95,6 +95,7 @@ impl Plan {
         })
     }
 
+    // The step of each kind of record is written out: a maker for two of them would be handed the same three words.
     /// A projection of the last relation.
     // A clause and no type for the 8: a wrapped slice would be unwrapped in each function that has it.
     fn project(&self, listed: &[u8]) -> Result<Step, Refusal>

@@ -73,11 +73,12 @@ mod tests {
     use cells::Cell;
     use std::test::Fail;
 
+    // The kind is a number here, as the rules have it: 1 of a number.
     #[test]
     fn parts(rt: HostRuntime) -> Result<(), Fail> {
         let mut draft = Draft::new();
         draft.declare(0, 1, 0)?;
-        let mut cells = [Cell::Number(0); 96];
+        let mut cells = [Cell::ZERO; 96];
         let book = draft.open(&mut cells);
         let query = [
             1, 0, 1, 0, 0, 1, 0, 1, 0, 0, 0, 0, 5, 0, 1, 0, 1, 0, 0, 0, 0, 6, 0, 1, 0, 1, 0, 0, 0,

@@ -90,6 +90,7 @@ mod tests {
     use semantics::Refusal;
     use std::test::Fail;
 
+    // The kinds are numbers here, as the rules have them: 1 of a number, 2 of a prefix.
     /// Table 0 has a prefix and this many numbers.
     fn columns(numbers: usize) -> Result<Draft, Refusal> {
         let mut draft = Draft::new();
@@ -108,7 +109,7 @@ mod tests {
 
     #[test]
     fn longest_prefix(rt: HostRuntime) -> Result<(), Fail> {
-        let mut cells = [Cell::Number(0); 96];
+        let mut cells = [Cell::ZERO; 96];
         let book = columns(2)?.open(&mut cells);
         let query = [
             1, 0, 1, 0, 0, 11, 0, 2, 0, 7, 0, 18, 0, 5, 0, 52, 55, 49, 49, 48, 1, 0, 1, 0, 0, 11,
@@ -132,7 +133,7 @@ mod tests {
 
     #[test]
     fn refusals(rt: HostRuntime) -> Result<(), Fail> {
-        let mut cells = [Cell::Number(0); 96];
+        let mut cells = [Cell::ZERO; 96];
         let book = columns(1)?.open(&mut cells);
         assert_eq!(rt; refused(&[], &book), Some((11, 0)));
         assert_eq!(rt; refused(&[1, 0, 1, 0], &book), Some((13, 0)));

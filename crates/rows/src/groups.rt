@@ -7,6 +7,7 @@ use crate::columns::{all_values, some_differ};
 use crate::members::{all_agree, members};
 use view::Masked;
 
+// A clause and no type for the 8, here and below: `compatible` is public and takes slices of any length.
 /// Whether two rows of one length, at most 8, are compatible, by the groups of their cells.
 fn groups_agree(a: &[Masked], b: &[Masked]) -> bool
     requires { (length a.now ≤ 8) × (length a.now ≡ length b.now) }

@@ -9,6 +9,8 @@ use book::Book;
 use cells::{Cell, Prefix};
 use semantics::Refusal;
 
+// Three words and no struct of a tariff: they are the cells of its row in their order, and a struct would name them again
+// wherever they are written down.
 /// The tariffs of the programs: the digits of each, its carrier and its price.
 pub const THREE_TARIFFS: [(&str, u32, u32); 3] = [
     ("47", 1, 3100),

@@ -15,6 +15,7 @@ use writing::{Query, WriteError};
 /// Holds for a tariff whose prefix covers 47110.
 const COVERS: Term<'static> = Term::ByPrefix(Operator::Covers, 0, b"47110");
 
+// Beside a like loop in `worked`, over tariffs of its own: in a library its contract would say the rows once more.
 /// The three tariffs.
 fn fill(book: &mut Book<'_>) -> Result<(), Refusal> {
     for (digits, carrier, price) in THREE_TARIFFS {
@@ -23,6 +24,7 @@ fn fill(book: &mut Book<'_>) -> Result<(), Refusal> {
     Ok(())
 }
 
+// Here and below, and in `bench` of another table: a shared one would be no shorter than its contract.
 /// Some columns of all tariffs.
 fn projected(heap: Global, columns: &[u8]) -> Result<Query, WriteError> {
     let mut query = Query::new(heap);

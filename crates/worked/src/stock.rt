@@ -48,6 +48,7 @@ const REPEATS: [(&str, u32, u32); 6] = [
     ("4711", 1, 2900),
 ];
 
+// Beside a like loop in `tour`: in a library its contract would say the rows once more.
 /// Stores tariffs into a table.
 fn store_all(
     book: &mut Book<'_>,

@@ -5,6 +5,7 @@ ghost use Rattle.workspace.specs.Blocks.{block_rows};
 use crate::block::Block;
 use view::Masked;
 
+// Not by `book`, whose slots are cut in a like way: a part of any memory is no word of a book, and is two lines.
 /// So many cells from a cell on, or as many as there are.
 #[tactic(auto, using(std::proofs::lemmas::List::take_all, std::proofs::lemmas::List::drop_all))]
 fn part(work: &[Masked], from: usize, width: usize) -> &[Masked]

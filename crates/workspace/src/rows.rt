@@ -7,6 +7,7 @@ use crate::block::Block;
 use std::iter::ExactSizeIterator;
 use view::Masked;
 
+// Beside `book::Walk`: its rows lie 32 cells apart, and what is left of a block is a block, which `len` and contracts name.
 /// Goes over the rows of a block, in their order.
 #[derive(Drop)]
 pub struct Rows<'w> {

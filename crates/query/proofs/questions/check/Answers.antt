@@ -47,11 +47,6 @@ returns-in_err-said-clause-plan c =
     ∙ went_unsaid (book_model c.args.book.now).columns (record_count c.loop-rest.plan) i.0 c.loop-rest.rest.now (room c.loop-rest.plan c.is_full.result c.is_full.ensures c.if-is_full.false) (some_left c.loop-rest.rest.now c.loop-rest-test.ensures) _
     (subst (λ (m : ℕ). first_said m c.loop-rest.rest.now ≡ refuse c.in_err-said.field-0.0) c.place-place.ensures c.in_err-said.ensures))
 
-pub grow-requires : goal.grow-requires
-grow-requires c =
-    let f = subst (λ (m : ℕ). ReadAs m (Ok (c.in_ok-said.said, c.in_ok-said.behind)) (first_said m c.loop-rest.rest.now)) c.place-place.ensures c.in_ok-said.ensures in
-    (room c.loop-rest.plan c.is_full.result c.is_full.ensures c.if-is_full.false, short-said (record_count c.loop-rest.plan) c.in_ok-said.said f.0.says f.2)
-
 pub returns-in_err-step-clause-plan : goal.returns-in_err-step-clause-plan
 returns-in_err-step-clause-plan c =
     let i = c.loop-rest.invariant.2 in

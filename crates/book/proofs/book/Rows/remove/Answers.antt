@@ -7,11 +7,6 @@ use Rattle.book.proofs.Memory.{part-eight}
 use Rattle.book.proofs.Striking.{Moved, removed_is}
 use Rattle.book.proofs.book.Rows.remove.Goals as goal
 
-pub copy_within-requires : goal.copy_within-requires
-copy_within-requires c =
-    let z = c.loop-row.invariant.1.size in
-    record { start_le_end = omega arith; in_bounds = omega arith; dest_in_bounds = omega arith; not_exhausted = tt }
-
 pub returns : goal.returns
 returns c =
     let s = c.args.self.now in
