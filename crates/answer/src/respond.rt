@@ -38,6 +38,7 @@ fn respond(task: Task, work: &mut [Masked], reply: &mut [u8]) -> Result<usize, R
     ensures kept { Kept result reply.old reply.new }
 {
     let limit = (work.len() / 240).min(512);
+    // Written out here and in `turn`: a function of the first row would ask for its bound again.
     let rows = Block {
         first: 0,
         count: 0,

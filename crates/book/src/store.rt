@@ -61,6 +61,7 @@ impl Book<'_> {
             return Err(Refusal::WrongWidth);
         }
         fitting(columns.as_slice(), row)?;
+        // By index: `row_count` answers 0 for a table that is not there, and this one is.
         if self.rows.counts[table] >= self.row_limit() {
             return Err(Refusal::TableFull);
         }
