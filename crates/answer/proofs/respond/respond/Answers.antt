@@ -6,6 +6,8 @@ use Rattle.answer.proofs.Finding.{sound_none, held_none}
 use Rattle.answer.proofs.Replying.{overfull, replied_or, kept_or}
 use Rattle.answer.proofs.respond.respond.Goals as goal
 
+pub invariant_of-memo : goal.invariant_of-memo
+invariant_of-memo c = record { few = omega arith; low = omega (arith, c.min-limit.ensures); room = omega (arith, c.min-limit.ensures) }
 
 pub invariant_of-memo-2 : goal.invariant_of-memo-2
 invariant_of-memo-2 c = record { few = omega (arith, c.min-limit.ensures); room = omega (arith, c.min-limit.ensures); sound = sound_none c.min-limit.result }
