@@ -3,19 +3,15 @@
 use std::io;
 use std::path::Path;
 use std::process::ExitCode;
-use std::thread;
 use std::time::Instant;
 
-use journal::batch::{Records, SHORT_PATIENCE, difference, differs, first_difference};
+use journal::batch::{Records, SHORT_PATIENCE, difference, differs, search};
 use journal::counts::Counts;
 use journal::generate::journal;
-use journal::program::run;
+use journal::program::{converse, run};
 use journal::session::outcomes;
 use journal::shrink::shrink;
 use journal::words::{print_journal, print_outcome};
-
-/// Journals down one process.
-const BATCH: u64 = 64;
 
 fn main() -> ExitCode {
     let arguments: Vec<String> = std::env::args().collect();
@@ -37,31 +33,32 @@ fn main() -> ExitCode {
     }
 }
 
-/// While the program is at one batch, the next is made.
 fn compare(count: u64, seed: u64, program: &Path) -> io::Result<bool> {
     let start = Instant::now();
+    if let Some(call) = first_silence(seed, program)? {
+        println!("call {call} has no outcome before the next call is sent");
+        return Ok(false);
+    }
     let mut counts = Counts::default();
-    let mut made = Vec::new();
-    let mut next = 0;
-    while next < count || !made.is_empty() {
-        let batch = std::mem::take(&mut made);
-        let found = thread::scope(|threads| {
-            let found = threads.spawn(|| first_difference(program, &batch));
-            while next < count && (made.len() as u64) < BATCH {
-                made.push(journal(seed, next, &mut counts));
-                next += 1;
-            }
-            found.join().expect("the thread that runs the program")
-        })?;
-        if let Some(records) = found {
-            println!("a difference within {} journals of seed {seed}", next - made.len() as u64);
-            report(program, records)?;
-            return Ok(false);
-        }
+    if let Some(found) = search(program, count, seed, &mut counts)? {
+        println!("a difference: journal {} of seed {seed}", found.journals - 1);
+        report(program, found.records)?;
+        return Ok(false);
     }
     counts.print();
     println!("no difference, {:.1} s", start.elapsed().as_secs_f64());
     Ok(true)
+}
+
+/// Talks to the program call by call, for the first few journals of the seed.
+fn first_silence(seed: u64, program: &Path) -> io::Result<Option<usize>> {
+    let made = (0..16).map(|number| journal(seed, number, &mut Counts::default()));
+    let calls: Vec<(Vec<u8>, Vec<u8>)> = made
+        .filter(|made| !made.bad)
+        .flat_map(|made| made.records.into_iter().zip(made.outcomes))
+        .map(|(record, outcome)| (record, outcome.bytes()))
+        .collect();
+    converse(program, &calls, SHORT_PATIENCE)
 }
 
 /// Shrinks the records and prints them with both outcomes of the call that differs.

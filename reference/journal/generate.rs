@@ -4,13 +4,14 @@ use crate::ask::{Ask, Reply};
 use crate::book::{Column, TABLES};
 use crate::bytes::Bytes;
 use crate::calls::{Call, Written};
-use crate::cells::Kind;
+use crate::cells::{Cell, Kind};
 use crate::counts::Counts;
 use crate::damage::{damaged, garbage};
 use crate::policy::{Columns, Entry, Policy, Rule, Sign, Test};
 use crate::queries::{Pools, Queries};
 use crate::random::Random;
 use crate::session::{Outcome, Session, Stage};
+use crate::view::view;
 
 /// A journal as its records, and the outcomes that the evaluator gives.
 #[derive(Clone)]
@@ -76,7 +77,11 @@ fn pools(random: &mut Random) -> Pools {
         }
         prefixes.push(prefix);
     }
-    let brokers = if random.percent(60) { vec![7] } else { vec![7, 8, 0, 65_535, 263] };
+    let brokers = match random.below(10) {
+        0..6 => vec![7],
+        6..9 => vec![7, random.pick(&[8, 0, 65_535, 263])],
+        _ => vec![random.next() as u16, random.next() as u16],
+    };
     Pools { numbers, prefixes, brokers }
 }
 
@@ -114,9 +119,9 @@ impl Maker<'_> {
         let big = special < 60;
         let memory_cells = match self.random.below(20) {
             _ if big => self.random.pick(&[8191, 8192, 8192, 8200, 10_000]),
-            0..9 => 8192,
-            9..15 => self.random.from_to(64, 500) as u32,
-            15..19 => self.random.pick(&[0, 31, 32, 63, 64, 95, 96, 97]),
+            0..12 => 8192,
+            12..16 => self.random.from_to(96, 500) as u32,
+            16..19 => self.random.pick(&[0, 31, 32, 63, 64, 95, 96, 97, 127, 128]),
             _ => self.random.pick(&[8200, 8223, 8224, u32::MAX, 1 << 16, 1 << 31]),
         };
         self.call(Call::Open { memory_cells });
@@ -281,8 +286,8 @@ impl Maker<'_> {
                 _ if big && table == big_table => {
                     self.random.pick(&[31, 60, 100, 200, 255, 256, 257, 260])
                 }
-                0..6 => 0,
-                6..70 => self.random.from_to(1, 4),
+                0..5 => 0,
+                5..35 => self.random.from_to(1, 4),
                 _ => self.random.from_to(4, 12),
             };
             for number in 0..count {
@@ -417,8 +422,8 @@ impl Maker<'_> {
     }
 
     fn policies(&mut self) {
-        let filter = if self.random.percent(75) { 0 } else { self.random.below(4) as u8 };
-        if self.random.percent(75) {
+        let filter = if self.random.percent(85) { 0 } else { self.random.below(4) as u8 };
+        if self.random.percent(85) {
             self.show_most(filter);
         }
         for _ in 0..self.random.pick(&[0, 1, 2, 4]) {
@@ -462,13 +467,14 @@ impl Maker<'_> {
                 continue;
             }
             for column in 0..self.columns()[table].len() as u8 {
-                let test = if self.random.percent(30) { self.test() } else { Test::Always };
-                if self.random.percent(80) {
+                let tested = self.random.percent(40);
+                let test = if tested { self.test(table as u8) } else { Test::Always };
+                if self.random.percent(88) {
                     let rule = Rule { broker, table: table as u8, column, sign: Sign::Allow, test };
                     self.call(Call::Rule { filter, rule });
                 }
-                if self.random.percent(15) {
-                    let test = self.test();
+                if self.random.percent(20) {
+                    let test = self.test(table as u8);
                     let sign = Sign::Prohibit;
                     let rule = Rule { broker, table: table as u8, column, sign, test };
                     self.call(Call::Rule { filter, rule });
@@ -477,10 +483,15 @@ impl Maker<'_> {
         }
     }
 
-    fn test(&mut self) -> Test {
+    /// A test that holds on some rows of the table, in most cases.
+    fn test(&mut self, table: u8) -> Test {
+        let columns = self.columns().get(table as usize).cloned().unwrap_or_default();
+        let numbers: Vec<usize> =
+            (0..columns.len()).filter(|c| columns[*c].kind == Kind::Number).collect();
         let column = match self.random.below(40) {
             0 => self.random.pick(&[7, 8, 9, 255]),
-            _ => self.random.pick(&[0, 0, 0, 1, 1, 2, 3]),
+            1..36 if !numbers.is_empty() => self.random.pick(&numbers) as u8,
+            _ => self.random.pick(&[0, 1, 2, 3]),
         };
         Test::Holds { column, number: self.number() }
     }
@@ -499,7 +510,7 @@ impl Maker<'_> {
             table,
             column,
             sign: if self.random.percent(75) { Sign::Allow } else { Sign::Prohibit },
-            test: if self.random.percent(50) { Test::Always } else { self.test() },
+            test: if self.random.percent(50) { Test::Always } else { self.test(table) },
         };
         let filter = if self.random.percent(70) { 0 } else { self.random.below(4) as u8 };
         self.call(Call::Rule { filter, rule });
@@ -512,14 +523,52 @@ impl Maker<'_> {
     }
 
     fn consent_for(&mut self, register: u8, key: u32) {
-        let shown = self.random.byte() & self.random.byte();
-        let linked = self.random.byte() | self.random.byte();
+        let (shown, linked) = match self.random.below(10) {
+            0..3 => (0xFF, self.random.byte()),
+            3..5 => (0, 0xFF),
+            5..7 => (self.random.byte(), 0xFF),
+            7 => (self.random.byte(), 0),
+            _ => (self.random.byte() & self.random.byte(), self.random.byte()),
+        };
         let entry = Entry { key, shown: Columns(shown), linked: Columns(linked) };
         self.call(Call::Consent { register, entry });
     }
 
     fn combine(&mut self) {
-        let policy = match self.random.below(10) {
+        let policy = self.combination();
+        self.call(Call::Combine(policy));
+    }
+
+    /// Combines anew until the broker sees some cells and not others, best with pseudonyms.
+    fn tell_apart(&mut self, broker: u16) {
+        if self.worth_of_view(&self.session.policy, broker) == 2 {
+            return;
+        }
+        for least in [2, 2, 2, 2, 1, 1, 1, 1] {
+            let policy = self.combination();
+            if self.worth_of_view(&policy, broker) >= least {
+                return self.call(Call::Combine(policy));
+            }
+        }
+    }
+
+    /// 0 where all cells are shown or none is, 2 where some are linked as well.
+    fn worth_of_view(&self, policy: &Policy, broker: u16) -> usize {
+        let Stage::Book(book) = &self.session.stage else { return 0 };
+        let drawn = view(book, &self.session.policies, policy, broker);
+        let cells = || drawn.iter().flatten().flatten();
+        let shown = cells().any(|cell| matches!(cell, Cell::Value(_)));
+        let hidden = cells().any(|cell| matches!(cell, Cell::Variable(_)));
+        let linked = cells().any(|cell| matches!(cell, Cell::Pseudonym(_)));
+        match (shown, hidden, linked) {
+            (true, _, true) => 2,
+            (true, true, false) => 1,
+            _ => 0,
+        }
+    }
+
+    fn combination(&mut self) -> Policy {
+        match self.random.below(10) {
             0..3 => Policy::Consents(0),
             3 => Policy::Filter(0),
             4..6 => Policy::Both(Box::new(Policy::Filter(0)), Box::new(Policy::Consents(0))),
@@ -528,8 +577,7 @@ impl Maker<'_> {
                 let leaves = self.random.from_to(1, 8);
                 self.pile(leaves)
             }
-        };
-        self.call(Call::Combine(policy));
+        }
     }
 
     fn pile(&mut self, leaves: usize) -> Policy {
@@ -560,8 +608,11 @@ impl Maker<'_> {
         let broker = if self.random.one_in(20) {
             self.random.pick(&[6, 7, 8, 263, 519, 65_535])
         } else {
-            self.pools.brokers[self.random.below(self.pools.brokers.len().min(2))]
+            self.random.pick(&self.pools.brokers)
         };
+        if self.random.percent(60) {
+            self.tell_apart(broker);
+        }
         let query = match self.random.below(100) {
             0..78 => self.telling_query(broker),
             78..86 => self.queries(|queries| queries.edge()).concat(),
@@ -593,7 +644,7 @@ impl Maker<'_> {
     /// A query drawn again a few times until its reply has certain and possible rows.
     fn telling_query(&mut self, broker: u16) -> Vec<u8> {
         let mut best = (0, Vec::new());
-        for _ in 0..self.random.pick(&[1, 5, 5, 5]) {
+        for _ in 0..self.random.pick(&[1, 12, 12, 12]) {
             let query = self.queries(|queries| queries.query()).concat();
             let ask = Ask { broker, query, workspace_cells: 24_000, reply_bytes: 43_016 };
             let worth = match self.reply(&ask) {

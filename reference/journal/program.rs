@@ -72,3 +72,42 @@ fn end(child: &mut Child, patience: Duration) -> io::Result<(Option<i32>, bool)>
     child.kill()?;
     Ok((child.wait()?.code(), true))
 }
+
+/// Sends one call after another, each only when the outcome of the one before has come. Gives
+/// the number of the first call whose outcome did not come in time.
+pub fn converse(
+    program: &Path,
+    calls: &[(Vec<u8>, Vec<u8>)],
+    patience: Duration,
+) -> io::Result<Option<usize>> {
+    let mut child = Command::new(program).stdin(Stdio::piped()).stdout(Stdio::piped()).spawn()?;
+    let mut to_child = child.stdin.take().expect("a pipe to the program");
+    let mut output = child.stdout.take().expect("a pipe from the program");
+    let (sender, chunks) = mpsc::channel();
+    thread::spawn(move || {
+        let mut buffer = vec![0; 1 << 16];
+        while let Ok(count @ 1..) = output.read(&mut buffer) {
+            if sender.send(count).is_err() {
+                break;
+            }
+        }
+    });
+    let mut silent = None;
+    for (number, (call, outcome)) in calls.iter().enumerate() {
+        let mut missing = outcome.len();
+        let mut sent = to_child.write_all(call).is_ok();
+        while sent && missing > 0 {
+            match chunks.recv_timeout(patience) {
+                Ok(count) => missing = missing.saturating_sub(count),
+                Err(_) => sent = false,
+            }
+        }
+        if !sent {
+            silent = Some(number);
+            break;
+        }
+    }
+    drop(to_child);
+    end(&mut child, patience)?;
+    Ok(silent)
+}

@@ -34,7 +34,11 @@ impl Queries<'_> {
             5..13 => self.random.from_to(4, 8),
             _ => self.random.from_to(9, 15),
         };
-        let records = self.relation(&kinds, budget);
+        let records = if budget > 4 && self.random.percent(25) {
+            self.two_parts(&kinds, &kinds, budget, 5)
+        } else {
+            self.relation(&kinds, budget)
+        };
         match self.random.below(40) {
             0 => self.filled_up(records, &kinds, 15),
             _ => records,
