@@ -82,7 +82,8 @@ fn relation_of(rows: impl Iterator<Item = Row>, most: usize) -> Option<Vec<Row>>
 
 /// Each left row followed by each right row.
 fn product(left: &[Row], right: &[Row]) -> impl Iterator<Item = Row> {
-    left.iter().flat_map(|l| right.iter().map(|r| l.iter().chain(r).copied().collect()))
+    left.iter()
+        .flat_map(|l| right.iter().map(|r| l.iter().chain(r).copied().collect()))
 }
 
 fn truth(condition: &Condition, row: &[Cell]) -> Truth {
@@ -95,6 +96,6 @@ fn truth(condition: &Condition, row: &[Cell]) -> Truth {
         }
         Condition::And(one, other) => truth(one, row).and(truth(other, row)),
         Condition::Or(one, other) => truth(one, row).or(truth(other, row)),
-        Condition::Not(one) => truth(one, row).not(),
+        Condition::Not(one) => truth(one, row).negated(),
     }
 }

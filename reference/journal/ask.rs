@@ -27,22 +27,24 @@ pub struct Reply {
 }
 
 impl Ask {
-    pub fn put(
-        &self,
-        book: &Book,
-        policies: &Policies,
-        policy: &Policy,
-    ) -> Result<Reply, Refusal> {
+    pub fn put(&self, book: &Book, policies: &Policies, policy: &Policy) -> Result<Reply, Refusal> {
         let query = read(&self.query, &book.columns)?;
         let view = view(book, policies, policy, self.broker);
         let most = (self.workspace_cells as usize / 240).min(512);
         let Answer { low: certain, high } = answer(&query, &view, most)?;
-        let possible: Vec<Row> = high.into_iter().filter(|row| !certain.contains(row)).collect();
+        let possible: Vec<Row> = high
+            .into_iter()
+            .filter(|row| !certain.contains(row))
+            .collect();
         let bytes = reply_bytes(&certain, &possible);
         if bytes.len() > self.reply_bytes as usize {
             return Err(Refusal::ReplyTooLong(query.record + 1));
         }
-        Ok(Reply { certain, possible, bytes })
+        Ok(Reply {
+            certain,
+            possible,
+            bytes,
+        })
     }
 }
 

@@ -47,7 +47,10 @@ pub fn search(
             found.join().expect("the thread that runs the program")
         })?;
         if let Some((at, records)) = found {
-            return Ok(Some(Found { records, journals: before + at as u64 + 1 }));
+            return Ok(Some(Found {
+                records,
+                journals: before + at as u64 + 1,
+            }));
         }
     }
     Ok(None)
@@ -63,7 +66,11 @@ fn first_difference(program: &Path, journals: &[Journal]) -> io::Result<Option<(
     if let Some(call) = difference(expected, false, &run_of_good) {
         return Ok(Some(records_up_to(program, journals, call)?));
     }
-    for (at, journal) in journals.iter().enumerate().filter(|(_, journal)| journal.bad) {
+    for (at, journal) in journals
+        .iter()
+        .enumerate()
+        .filter(|(_, journal)| journal.bad)
+    {
         let run = run(program, &journal.records.concat(), PATIENCE)?;
         if difference(&journal.outcomes, true, &run).is_some() {
             return Ok(Some((at, journal.records.clone())));
@@ -79,11 +86,22 @@ fn records_up_to(
     call: usize,
 ) -> io::Result<(usize, Records)> {
     let mut so_far = Records::new();
-    for (at, journal) in journals.iter().enumerate().filter(|(_, journal)| !journal.bad) {
+    for (at, journal) in journals
+        .iter()
+        .enumerate()
+        .filter(|(_, journal)| !journal.bad)
+    {
         so_far.extend(journal.records.iter().cloned());
         if so_far.len() > call {
             let alone = differs(program, &journal.records)?;
-            return Ok((at, if alone { journal.records.clone() } else { so_far }));
+            return Ok((
+                at,
+                if alone {
+                    journal.records.clone()
+                } else {
+                    so_far
+                },
+            ));
         }
     }
     Ok((journals.len(), so_far))
@@ -115,6 +133,10 @@ pub fn difference<'a>(
     }
     let lines = run.errors.iter().filter(|byte| **byte == b'\n').count();
     let one_line = lines == 1 && run.errors.ends_with(b"\n");
-    let ended_right = if bad { run.status == Some(1) && one_line } else { run.status == Some(0) };
+    let ended_right = if bad {
+        run.status == Some(1) && one_line
+    } else {
+        run.status == Some(0)
+    };
     (!left.is_empty() || run.hung || !ended_right).then_some(count)
 }

@@ -59,7 +59,10 @@ impl Book {
         if cells.is_empty() || cells.len() != columns.len() {
             return Err(Refusal::WrongWidth);
         }
-        let fault = cells.iter().zip(columns).position(|(cell, column)| cell.kind() != column.kind);
+        let fault = cells
+            .iter()
+            .zip(columns)
+            .position(|(cell, column)| cell.kind() != column.kind);
         if let Some(cell) = fault {
             return Err(Refusal::WrongKind(cell as u8));
         }
@@ -81,8 +84,12 @@ impl Book {
 
     pub fn amend(&mut self, table: u8, row: u16, column: u8, cell: Value) -> Result<(), Refusal> {
         let table = table_number(table)?;
-        let row = self.rows[table].get_mut(row as usize).ok_or(Refusal::NoRow)?;
-        let declared = self.columns[table].get(column as usize).ok_or(Refusal::NoColumn)?;
+        let row = self.rows[table]
+            .get_mut(row as usize)
+            .ok_or(Refusal::NoRow)?;
+        let declared = self.columns[table]
+            .get(column as usize)
+            .ok_or(Refusal::NoColumn)?;
         if cell.kind() != declared.kind {
             return Err(Refusal::WrongKind(0));
         }
@@ -92,5 +99,9 @@ impl Book {
 }
 
 fn table_number(table: u8) -> Result<usize, Refusal> {
-    if (table as usize) < TABLES { Ok(table as usize) } else { Err(Refusal::NoTable) }
+    if (table as usize) < TABLES {
+        Ok(table as usize)
+    } else {
+        Err(Refusal::NoTable)
+    }
 }

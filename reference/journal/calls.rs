@@ -25,13 +25,36 @@ impl Written {
 #[derive(Clone, PartialEq, Eq, Debug)]
 pub enum Call {
     Begin,
-    Declare { table: u8, kind: u8, domain: u8 },
-    Open { memory_cells: u32 },
-    Store { table: u8, cells: Vec<Written> },
-    Strike { table: u8, row: u16 },
-    Amend { table: u8, row: u16, column: u8, cell: Written },
-    Rule { filter: u8, rule: Rule },
-    Consent { register: u8, entry: Entry },
+    Declare {
+        table: u8,
+        kind: u8,
+        domain: u8,
+    },
+    Open {
+        memory_cells: u32,
+    },
+    Store {
+        table: u8,
+        cells: Vec<Written>,
+    },
+    Strike {
+        table: u8,
+        row: u16,
+    },
+    Amend {
+        table: u8,
+        row: u16,
+        column: u8,
+        cell: Written,
+    },
+    Rule {
+        filter: u8,
+        rule: Rule,
+    },
+    Consent {
+        register: u8,
+        entry: Entry,
+    },
     Combine(Policy),
     Ask(Ask),
 }
@@ -70,7 +93,11 @@ impl Call {
         let mut body = Vec::new();
         let kind = match self {
             Call::Begin => 0x30,
-            Call::Declare { table, kind, domain } => {
+            Call::Declare {
+                table,
+                kind,
+                domain,
+            } => {
                 body.extend([table, kind, domain]);
                 0x31
             }
@@ -90,7 +117,12 @@ impl Call {
                 body.extend(row.to_le_bytes());
                 0x34
             }
-            Call::Amend { table, row, column, cell } => {
+            Call::Amend {
+                table,
+                row,
+                column,
+                cell,
+            } => {
                 body.push(*table);
                 body.extend(row.to_le_bytes());
                 body.push(*column);
@@ -133,8 +165,14 @@ impl Call {
 fn read_form(kind: u16, bytes: &mut Bytes) -> Option<Call> {
     Some(match kind {
         0x30 => Call::Begin,
-        0x31 => Call::Declare { table: bytes.one()?, kind: bytes.one()?, domain: bytes.one()? },
-        0x32 => Call::Open { memory_cells: bytes.four()? },
+        0x31 => Call::Declare {
+            table: bytes.one()?,
+            kind: bytes.one()?,
+            domain: bytes.one()?,
+        },
+        0x32 => Call::Open {
+            memory_cells: bytes.four()?,
+        },
         0x33 => {
             let table = bytes.one()?;
             let mut cells = Vec::new();
@@ -146,7 +184,10 @@ fn read_form(kind: u16, bytes: &mut Bytes) -> Option<Call> {
             }
             Call::Store { table, cells }
         }
-        0x34 => Call::Strike { table: bytes.one()?, row: bytes.two()? },
+        0x34 => Call::Strike {
+            table: bytes.one()?,
+            row: bytes.two()?,
+        },
         0x35 => Call::Amend {
             table: bytes.one()?,
             row: bytes.two()?,
@@ -155,7 +196,10 @@ fn read_form(kind: u16, bytes: &mut Bytes) -> Option<Call> {
         },
         0x36 => {
             let filter = number_to_3(bytes.one()?)?;
-            Call::Rule { filter, rule: read_rule(bytes)? }
+            Call::Rule {
+                filter,
+                rule: read_rule(bytes)?,
+            }
         }
         0x37 => {
             let register = number_to_3(bytes.one()?)?;
@@ -218,7 +262,10 @@ fn read_rule(bytes: &mut Bytes) -> Option<Rule> {
         test: if bytes.is_empty() {
             Test::Always
         } else {
-            Test::Holds { column: bytes.one()?, number: bytes.four()? }
+            Test::Holds {
+                column: bytes.one()?,
+                number: bytes.four()?,
+            }
         },
     })
 }
@@ -256,7 +303,11 @@ fn write_steps(policy: &Policy, body: &mut Vec<u8>) {
         Policy::Both(one, other) | Policy::Either(one, other) => {
             write_steps(one, body);
             write_steps(other, body);
-            body.push(if matches!(policy, Policy::Both(..)) { 0x20 } else { 0x21 });
+            body.push(if matches!(policy, Policy::Both(..)) {
+                0x20
+            } else {
+                0x21
+            });
         }
     }
 }

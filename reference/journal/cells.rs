@@ -22,7 +22,10 @@ impl Prefix {
         }
         let mut digits = [0; 8];
         digits[..bytes.len()].copy_from_slice(bytes);
-        Ok(Prefix { digits, count: bytes.len() as u8 })
+        Ok(Prefix {
+            digits,
+            count: bytes.len() as u8,
+        })
     }
 
     pub fn digits(&self) -> &[u8] {

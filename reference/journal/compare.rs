@@ -41,7 +41,10 @@ fn compare(count: u64, seed: u64, program: &Path) -> io::Result<bool> {
     }
     let mut counts = Counts::default();
     if let Some(found) = search(program, count, seed, &mut counts)? {
-        println!("a difference: journal {} of seed {seed}", found.journals - 1);
+        println!(
+            "a difference: journal {} of seed {seed}",
+            found.journals - 1
+        );
         report(program, found.records)?;
         return Ok(false);
     }
@@ -81,14 +84,20 @@ fn report(program: &Path, records: Records) -> io::Result<()> {
         println!("it did not come again");
         return Ok(());
     };
-    let before: usize = expected[..at].iter().map(|outcome| outcome.bytes().len()).sum();
+    let before: usize = expected[..at]
+        .iter()
+        .map(|outcome| outcome.bytes().len())
+        .sum();
     println!("call {at}, by the rules:");
     match (expected.get(at), bad) {
         (Some(outcome), _) => print_outcome(&outcome.bytes()),
         (None, Some(bad)) => println!("      bad journal: {}", bad.words()),
         (None, None) => println!("      the end, with status 0"),
     }
-    println!("by the program (status {:?}, hung {}):", run.status, run.hung);
+    println!(
+        "by the program (status {:?}, hung {}):",
+        run.status, run.hung
+    );
     print_outcome(&run.output[before.min(run.output.len())..]);
     let errors = String::from_utf8_lossy(&run.errors);
     if !errors.is_empty() {

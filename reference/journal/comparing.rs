@@ -26,7 +26,7 @@ impl Truth {
         }
     }
 
-    pub fn not(self) -> Truth {
+    pub fn negated(self) -> Truth {
         match self {
             Truth::True => Truth::False,
             Truth::Unknown => Truth::Unknown,

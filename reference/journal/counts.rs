@@ -33,7 +33,10 @@ impl Counts {
             Outcome::Replied(_) => self.replies += 1,
             Outcome::Refused(refusal) => {
                 *self.refusals.entry(refusal.number()).or_default() += 1;
-                self.places.entry(refusal.number()).or_default().insert(refusal.place());
+                self.places
+                    .entry(refusal.number())
+                    .or_default()
+                    .insert(refusal.place());
             }
         }
         match (call, &session.stage) {
@@ -58,7 +61,10 @@ impl Counts {
         let found = [
             ("certain rows", !certain.is_empty()),
             ("possible rows", !possible.is_empty()),
-            ("certain and possible rows", !certain.is_empty() && !possible.is_empty()),
+            (
+                "certain and possible rows",
+                !certain.is_empty() && !possible.is_empty(),
+            ),
             ("no row", certain.is_empty() && possible.is_empty()),
             ("variables", has_variable),
             ("pseudonyms", has_pseudonym),
@@ -124,7 +130,10 @@ impl Counts {
     }
 
     pub fn print(&self) {
-        println!("journals {}, of them bad {}", self.journals, self.bad_journals);
+        println!(
+            "journals {}, of them bad {}",
+            self.journals, self.bad_journals
+        );
         println!("calls {}", self.calls);
         println!("  done {}", self.done);
         println!("  replies {}", self.replies);

@@ -55,12 +55,18 @@ pub fn damaged(random: &mut Random, mut records: Records) -> Vec<u8> {
 
 fn change_a_byte(random: &mut Random, record: &mut [u8]) {
     // The body more often than the head.
-    let first = if record.len() > 4 && random.percent(80) { 4 } else { 0 };
+    let first = if record.len() > 4 && random.percent(80) {
+        4
+    } else {
+        0
+    };
     let at = random.from_to(first, record.len() - 1);
     record[at] = match random.below(4) {
         0 => record[at] ^ 1 << random.below(8),
         1 => random.byte(),
-        2 => random.pick(&[0, 1, 2, 3, 4, 5, 6, 7, 8, 9, 15, 16, 0x2F, 0x30, 0x39, 0x3A, 255]),
+        2 => random.pick(&[
+            0, 1, 2, 3, 4, 5, 6, 7, 8, 9, 15, 16, 0x2F, 0x30, 0x39, 0x3A, 255,
+        ]),
         _ => record[at].wrapping_add(random.pick(&[1u8, 255])),
     };
 }
@@ -69,9 +75,17 @@ fn change_a_byte(random: &mut Random, record: &mut [u8]) {
 pub fn garbage(random: &mut Random) -> Vec<u8> {
     let length = match random.below(6) {
         0 => return Vec::new(),
-        1 => random.pick(&[1023, 1024, 1025, 1026, 2000]),
+        1 => random.pick(&[1023, 1024, 1025, 1026, 1280, 2000, 4000, 65_525]),
         _ => random.from_to(1, 40),
     };
     let small = random.percent(60);
-    (0..length).map(|_| if small { random.byte() % 7 } else { random.byte() }).collect()
+    (0..length)
+        .map(|_| {
+            if small {
+                random.byte() % 7
+            } else {
+                random.byte()
+            }
+        })
+        .collect()
 }

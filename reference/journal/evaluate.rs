@@ -103,7 +103,10 @@ fn next_call(input: &mut impl Read) -> Result<Option<Call>, Stop> {
     if fill(input, &mut body)? < body.len() {
         return Err(Bad::CutOff.into());
     }
-    Ok(Some(Call::read(u16::from_le_bytes([head[2], head[3]]), &body)?))
+    Ok(Some(Call::read(
+        u16::from_le_bytes([head[2], head[3]]),
+        &body,
+    )?))
 }
 
 /// Reads until the buffer is full or the input ends; the count of bytes read.

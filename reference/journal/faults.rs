@@ -22,7 +22,12 @@ const fn fault(
     right: &'static str,
     wrong: &'static str,
 ) -> Fault {
-    Fault { name, file, right, wrong }
+    Fault {
+        name,
+        file,
+        right,
+        wrong,
+    }
 }
 
 const FAULTS: &[Fault] = &[
@@ -80,9 +85,24 @@ const FAULTS: &[Fault] = &[
         "!right.low.contains(row)",
         "!right.low.iter().any(|other| compatible(row, other))",
     ),
-    fault("C rows are one too many", "answer.rs", "kept.len() == most", "kept.len() + 1 >= most"),
-    fault("one row more than C is let through", "answer.rs", "kept.len() == most", "kept.len() > most"),
-    fault("repeats are kept", "answer.rs", "if !kept.contains(&row) {", "if true {"),
+    fault(
+        "C rows are one too many",
+        "answer.rs",
+        "kept.len() == most",
+        "kept.len() + 1 >= most",
+    ),
+    fault(
+        "one row more than C is let through",
+        "answer.rs",
+        "kept.len() == most",
+        "kept.len() > most",
+    ),
+    fault(
+        "repeats are kept",
+        "answer.rs",
+        "if !kept.contains(&row) {",
+        "if true {",
+    ),
     fault(
         "the last of identical rows is kept",
         "answer.rs",
@@ -122,8 +142,8 @@ const FAULTS: &[Fault] = &[
     fault(
         "in a product the right row is outermost",
         "answer.rs",
-        "left.iter().flat_map(|l| right.iter().map(|r| l",
-        "right.iter().flat_map(|r| left.iter().map(move |l| l",
+        "left.iter()\n        .flat_map(|l| right.iter().map(|r| l",
+        "right.iter()\n        .flat_map(|r| left.iter().map(move |l| l",
     ),
     fault(
         "certain rows are possible again",
@@ -143,59 +163,314 @@ const FAULTS: &[Fault] = &[
         "bytes.len() > self.reply_bytes as usize",
         "bytes.len() >= self.reply_bytes as usize",
     ),
-    fault("C is one row for 239 cells", "ask.rs", "as usize / 240", "as usize / 239"),
+    fault(
+        "C is one row for 239 cells",
+        "ask.rs",
+        "as usize / 240",
+        "as usize / 239",
+    ),
     fault("C is at most 511", "ask.rs", ".min(512)", ".min(511)"),
-    fault("C has no bound", "ask.rs", ".min(512)", ".min(513)"),
-    fault("the index of a pseudonym has one byte", "ask.rs", "pseudonym.index.to_le_bytes()", "[pseudonym.index as u8, 0]"),
-    fault("the index of a pseudonym is a rank", "view.rs", "let here = self.count;", "let here = self.firsts.len() as u16;"),
-    fault("linked in domain 0 is a pseudonym", "view.rs", "Mark::Linked if domain != 0", "Mark::Linked if domain < 16"),
-    fault("linked in domain 15 is a variable", "view.rs", "Mark::Linked if domain != 0", "Mark::Linked if domain != 0 && domain != 15"),
-    fault("linked cells are counted over all domains", "view.rs", "domains[domain as usize].index", "domains[0].index"),
-    fault("Both and Either are swapped", "calls.rs", "0x20 => Policy::Both(before, last)", "0x21 => Policy::Both(before, last)"),
-    fault("Both forgets linked", "policy.rs", "self.mark(one, question).min(self.mark(other, question))", "if self.mark(one, question) == Mark::Shown { self.mark(other, question) } else { Mark::Hidden }"),
-    fault("Either of linked and hidden is hidden", "policy.rs", "self.mark(one, question).max(self.mark(other, question))", "if self.mark(one, question) < self.mark(other, question) && self.mark(other, question) == Mark::Linked { Mark::Hidden } else { self.mark(one, question).max(self.mark(other, question)) }"),
-    fault("prohibiting rules are ignored", "policy.rs", "&& !some_rule(Sign::Prohibit)", ""),
-    fault("tests of rules are ignored", "policy.rs", "&& test_holds", "&& (test_holds || true)"),
-    fault("a broker is known by its low byte", "policy.rs", "self.broker == question.broker", "self.broker as u8 == question.broker as u8"),
-    fault("linked goes before shown", "policy.rs", "Some(entry) if entry.shown.holds(question.column) => Mark::Shown", "Some(entry) if entry.shown.holds(question.column) && !entry.linked.holds(question.column) => Mark::Shown"),
-    fault("consents hide table 2", "policy.rs", "if question.table != 3 {", "if question.table < 2 {"),
-    fault("an entry once set stays", "policy.rs", "Some(known) => self.entries[known] = entry,", "Some(_) => {}"),
-    fault("a 65th entry is let in", "policy.rs", "self.entries.len() < 64", "self.entries.len() < 65"),
-    fault("a full register lets no known key in", "policy.rs", "Some(known) => self.entries[known] = entry,", "Some(_) if self.entries.len() >= 64 => return Err(Refusal::RegisterFull), Some(known) => self.entries[known] = entry,"),
-    fault("a 17th rule is let in", "policy.rs", "self.rules.len() >= 16", "self.rules.len() >= 17"),
-    fault("a full filter is told before a wrong column", "policy.rs", "if rule.column > 7 || test_column_at_fault", "if self.rules.len() < 16 && (rule.column > 7 || test_column_at_fault)"),
-    fault("a test may name column 8", "policy.rs", "column > 7)", "column > 8)"),
-    fault("begin keeps the rules", "session.rs", "*self = Session::default();", "let policies = std::mem::take(&mut self.policies); *self = Session::default(); self.policies = policies;"),
-    fault("begin keeps the combination", "session.rs", "*self = Session::default();", "let policy = self.policy.clone(); *self = Session::default(); self.policy = policy;"),
-    fault("the row limit is at most 255", "book.rs", ".min(256)", ".min(255)"),
-    fault("the row limit is rounded up", "book.rs", "(memory_cells as usize / 32)", "(memory_cells as usize).div_ceil(32)"),
-    fault("a full table is told before a wrong kind", "book.rs", "let fault = cells", "if self.rows[table].len() >= self.row_limit { return Err(Refusal::TableFull); } let fault = cells"),
-    fault("the last row takes the place of a struck one", "book.rs", ".remove(row as usize)", ".swap_remove(row as usize)"),
-    fault("a wrong column is told before a missing row", "book.rs", "let row = self.rows[table].get_mut(row as usize).ok_or(Refusal::NoRow)?;\n        let declared = self.columns[table].get(column as usize).ok_or(Refusal::NoColumn)?;", "let declared = self.columns[table].get(column as usize).ok_or(Refusal::NoColumn)?;\n        let row = self.rows[table].get_mut(row as usize).ok_or(Refusal::NoRow)?;"),
-    fault("domains are held to one kind within a table only", "book.rs", "self.columns.iter().flatten().any(other_kind)", "self.columns[table].iter().any(other_kind)"),
-    fault("a missing table is told before a wrong prefix", "session.rs", "let cells: Vec<Value> = cells", "if table > 3 { return Err(Refusal::NoTable); } let cells: Vec<Value> = cells"),
-    fault("a colon is a digit", "cells.rs", "bytes.iter().all(u8::is_ascii_digit)", "bytes.iter().all(|byte| (b'0'..=b':').contains(byte))"),
-    fault("1,024 bytes are too long", "query.rs", "query.len() > 1024", "query.len() >= 1024"),
-    fault("1,025 bytes are let in", "query.rs", "query.len() > 1024", "query.len() > 1025"),
-    fault("a sixteenth record is let in", "query.rs", "if record == 15 {", "if record == 16 {"),
-    fault("a fifteenth record is refused", "query.rs", "if record == 15 {", "if record == 14 {"),
-    fault("a kind is read from its low byte", "query.rs", "if !(1..=6).contains(&kind) {", "let kind = kind & 0xFF; if !(1..=6).contains(&kind) {"),
-    fault("a product of eight columns is refused", "query.rs", "kinds.len() > 8", "kinds.len() >= 8"),
-    fault("a sixteenth condition is let in", "query.rs", "count <= 15", "count <= 16"),
-    fault("a fifteenth condition is refused", "query.rs", "count <= 15", "count < 15"),
-    fault("names and fit of a select are asked in the other order", "query.rs", "if !names_exist(&condition, part.kinds.len()) {", "if !names_exist(&condition, part.kinds.len()) && format!(\"{condition:?}\").contains(\"Constant(Prefix\") && part.kinds.iter().all(|kind| *kind == Kind::Number) { return Err(Refusal::Unfit(record)); } if !names_exist(&condition, part.kinds.len()) {"),
-    fault("the stack is asked before the form", "query.rs", "let body = read_body", "if kind > 1 && stack.is_empty() { return Err(Refusal::StackShort(record)); } let body = read_body"),
-    fault("a difference fits where the widths do", "query.rs", "if left.kinds != right.kinds {", "if left.kinds.len() != right.kinds.len() || (left.kinds != right.kinds && matches!(body, Body::Union)) {"),
-    fault("shorter is asked of equally long prefixes too", "comparing.rs", "left.digits().len() < right.digits().len()", "left.digits().len() <= right.digits().len()"),
-    fault("covers is turned round", "comparing.rs", "right.digits().starts_with(left.digits())", "left.digits().starts_with(right.digits())"),
-    fault("a symbol is not known to cover itself", "comparing.rs", "_ if left == right => compare_with_itself(operator).into(),", "_ if left == right && operator != Operator::Covers => compare_with_itself(operator).into(),"),
-    fault("different pseudonyms are not known to differ", "comparing.rs", "Operator::Unequal => Truth::True,", "Operator::Unequal => Truth::Unknown,"),
-    fault("different variables are known to differ", "comparing.rs", "        _ => Truth::Unknown,\n    }\n}\n\nfn compare_values", "        (Cell::Variable(_), Cell::Variable(_)) if operator == Operator::Unequal => Truth::True,\n        _ => Truth::Unknown,\n    }\n}\n\nfn compare_values"),
-    fault("not of unknown is true", "comparing.rs", "Truth::Unknown => Truth::Unknown,", "Truth::Unknown => Truth::True,"),
-    fault("unknown and false is unknown", "comparing.rs", "(Truth::False, _) | (_, Truth::False) => Truth::False", "(Truth::False, Truth::False | Truth::True) | (Truth::True, Truth::False) => Truth::False"),
-    fault("a sign above 1 allows", "calls.rs", "            1 => Sign::Allow,\n            _ => return None,", "            _ => Sign::Allow,"),
-    fault("a combination may leave two policies", "calls.rs", "policies.is_empty().then_some(whole)", "Some(whole)"),
-    fault("a second open is let through", "session.rs", "(Call::Open { memory_cells }, Stage::Draft(draft)) => {", "(Call::Open { .. }, Stage::Book(_)) => Outcome::Done,\n            (Call::Open { memory_cells }, Stage::Draft(draft)) => {"),
+    fault("C is at most 513", "ask.rs", ".min(512)", ".min(513)"),
+    fault(
+        "the index of a pseudonym has one byte",
+        "ask.rs",
+        "pseudonym.index.to_le_bytes()",
+        "[pseudonym.index as u8, 0]",
+    ),
+    fault(
+        "the index of a pseudonym is a rank",
+        "view.rs",
+        "let here = self.count;",
+        "let here = self.firsts.len() as u16;",
+    ),
+    fault(
+        "linked in domain 0 is a pseudonym",
+        "view.rs",
+        "Mark::Linked if domain != 0",
+        "Mark::Linked if domain < 16",
+    ),
+    fault(
+        "linked in domain 15 is a variable",
+        "view.rs",
+        "Mark::Linked if domain != 0",
+        "Mark::Linked if domain != 0 && domain != 15",
+    ),
+    fault(
+        "linked cells are counted over all domains",
+        "view.rs",
+        "domains[domain as usize].index",
+        "domains[0].index",
+    ),
+    fault(
+        "Both and Either are swapped",
+        "calls.rs",
+        "0x20 => Policy::Both(before, last)",
+        "0x21 => Policy::Both(before, last)",
+    ),
+    fault(
+        "Both forgets linked",
+        "policy.rs",
+        "self.mark(one, question).min(self.mark(other, question))",
+        "if self.mark(one, question) == Mark::Shown { self.mark(other, question) } else { Mark::Hidden }",
+    ),
+    fault(
+        "Either of linked and hidden is hidden",
+        "policy.rs",
+        "self.mark(one, question).max(self.mark(other, question))",
+        "if self.mark(one, question) < self.mark(other, question) && self.mark(other, question) == Mark::Linked { Mark::Hidden } else { self.mark(one, question).max(self.mark(other, question)) }",
+    ),
+    fault(
+        "prohibiting rules are ignored",
+        "policy.rs",
+        "&& !some_rule(Sign::Prohibit)",
+        "",
+    ),
+    fault(
+        "tests of rules are ignored",
+        "policy.rs",
+        "&& test_holds",
+        "&& (test_holds || true)",
+    ),
+    fault(
+        "a broker is known by its low byte",
+        "policy.rs",
+        "self.broker == question.broker",
+        "self.broker as u8 == question.broker as u8",
+    ),
+    fault(
+        "linked goes before shown",
+        "policy.rs",
+        "Some(entry) if entry.shown.holds(question.column) => Mark::Shown",
+        "Some(entry) if entry.shown.holds(question.column) && !entry.linked.holds(question.column) => Mark::Shown",
+    ),
+    fault(
+        "consents hide table 2",
+        "policy.rs",
+        "if question.table != 3 {",
+        "if question.table < 2 {",
+    ),
+    fault(
+        "an entry once set stays",
+        "policy.rs",
+        "Some(known) => self.entries[known] = entry,",
+        "Some(_) => {}",
+    ),
+    fault(
+        "a 65th entry is let in",
+        "policy.rs",
+        "self.entries.len() < 64",
+        "self.entries.len() < 65",
+    ),
+    fault(
+        "a full register lets no known key in",
+        "policy.rs",
+        "Some(known) => self.entries[known] = entry,",
+        "Some(_) if self.entries.len() >= 64 => return Err(Refusal::RegisterFull), Some(known) => self.entries[known] = entry,",
+    ),
+    fault(
+        "a 17th rule is let in",
+        "policy.rs",
+        "self.rules.len() >= 16",
+        "self.rules.len() >= 17",
+    ),
+    fault(
+        "a full filter is told before a wrong column",
+        "policy.rs",
+        "if rule.column > 7 || test_column_at_fault",
+        "if self.rules.len() < 16 && (rule.column > 7 || test_column_at_fault)",
+    ),
+    fault(
+        "a test may name column 8",
+        "policy.rs",
+        "column > 7)",
+        "column > 8)",
+    ),
+    fault(
+        "begin keeps the rules",
+        "session.rs",
+        "*self = Session::default();",
+        "let policies = std::mem::take(&mut self.policies); *self = Session::default(); self.policies = policies;",
+    ),
+    fault(
+        "begin keeps the combination",
+        "session.rs",
+        "*self = Session::default();",
+        "let policy = self.policy.clone(); *self = Session::default(); self.policy = policy;",
+    ),
+    fault(
+        "the row limit is at most 255",
+        "book.rs",
+        ".min(256)",
+        ".min(255)",
+    ),
+    fault(
+        "the row limit is rounded up",
+        "book.rs",
+        "(memory_cells as usize / 32)",
+        "(memory_cells as usize).div_ceil(32)",
+    ),
+    fault(
+        "a full table is told before a wrong kind",
+        "book.rs",
+        "let fault = cells",
+        "if self.rows[table].len() >= self.row_limit { return Err(Refusal::TableFull); } let fault = cells",
+    ),
+    fault(
+        "the last row takes the place of a struck one",
+        "book.rs",
+        ".remove(row as usize)",
+        ".swap_remove(row as usize)",
+    ),
+    fault(
+        "a wrong column is told before a missing row",
+        "book.rs",
+        "let row = self.rows[table]\n",
+        "if column as usize >= self.columns[table].len() { return Err(Refusal::NoColumn); }\n        let row = self.rows[table]\n",
+    ),
+    fault(
+        "domains are held to one kind within a table only",
+        "book.rs",
+        "self.columns.iter().flatten().any(other_kind)",
+        "self.columns[table].iter().any(other_kind)",
+    ),
+    fault(
+        "a missing table is told before a wrong prefix",
+        "session.rs",
+        "let cells: Vec<Value> = cells",
+        "if table > 3 { return Err(Refusal::NoTable); } let cells: Vec<Value> = cells",
+    ),
+    fault(
+        "a colon is a digit",
+        "cells.rs",
+        "bytes.iter().all(u8::is_ascii_digit)",
+        "bytes.iter().all(|byte| (b'0'..=b':').contains(byte))",
+    ),
+    fault(
+        "1,024 bytes are too long",
+        "query.rs",
+        "query.len() > 1024",
+        "query.len() >= 1024",
+    ),
+    fault(
+        "1,025 bytes are let in",
+        "query.rs",
+        "query.len() > 1024",
+        "query.len() > 1025",
+    ),
+    fault(
+        "a sixteenth record is let in",
+        "query.rs",
+        "if record == 15 {",
+        "if record == 16 {",
+    ),
+    fault(
+        "a fifteenth record is refused",
+        "query.rs",
+        "if record == 15 {",
+        "if record == 14 {",
+    ),
+    fault(
+        "a kind is read from its low byte",
+        "query.rs",
+        "if !(1..=6).contains(&kind) {",
+        "let kind = kind & 0xFF; if !(1..=6).contains(&kind) {",
+    ),
+    fault(
+        "a product of eight columns is refused",
+        "query.rs",
+        "kinds.len() > 8",
+        "kinds.len() >= 8",
+    ),
+    fault(
+        "a sixteenth condition is let in",
+        "query.rs",
+        "count <= 15",
+        "count <= 16",
+    ),
+    fault(
+        "a fifteenth condition is refused",
+        "query.rs",
+        "count <= 15",
+        "count < 15",
+    ),
+    fault(
+        "names and fit of a select are asked in the other order",
+        "query.rs",
+        "if !names_exist(&condition, part.kinds.len()) {",
+        "if !names_exist(&condition, part.kinds.len()) && format!(\"{condition:?}\").contains(\"Constant(Prefix\") && part.kinds.iter().all(|kind| *kind == Kind::Number) { return Err(Refusal::Unfit(record)); } if !names_exist(&condition, part.kinds.len()) {",
+    ),
+    fault(
+        "the stack is asked before the form",
+        "query.rs",
+        "let body = read_body",
+        "if kind > 1 && stack.is_empty() { return Err(Refusal::StackShort(record)); } let body = read_body",
+    ),
+    fault(
+        "a difference fits where the widths do",
+        "query.rs",
+        "if left.kinds != right.kinds {",
+        "if left.kinds.len() != right.kinds.len() || (left.kinds != right.kinds && matches!(body, Body::Union)) {",
+    ),
+    fault(
+        "shorter is asked of equally long prefixes too",
+        "comparing.rs",
+        "left.digits().len() < right.digits().len()",
+        "left.digits().len() <= right.digits().len()",
+    ),
+    fault(
+        "covers is turned round",
+        "comparing.rs",
+        "right.digits().starts_with(left.digits())",
+        "left.digits().starts_with(right.digits())",
+    ),
+    fault(
+        "a symbol is not known to cover itself",
+        "comparing.rs",
+        "_ if left == right => compare_with_itself(operator).into(),",
+        "_ if left == right && operator != Operator::Covers => compare_with_itself(operator).into(),",
+    ),
+    fault(
+        "different pseudonyms are not known to differ",
+        "comparing.rs",
+        "Operator::Unequal => Truth::True,",
+        "Operator::Unequal => Truth::Unknown,",
+    ),
+    fault(
+        "different variables are known to differ",
+        "comparing.rs",
+        "        _ => Truth::Unknown,\n    }\n}\n\nfn compare_values",
+        "        (Cell::Variable(_), Cell::Variable(_)) if operator == Operator::Unequal => Truth::True,\n        _ => Truth::Unknown,\n    }\n}\n\nfn compare_values",
+    ),
+    fault(
+        "not of unknown is true",
+        "comparing.rs",
+        "Truth::Unknown => Truth::Unknown,",
+        "Truth::Unknown => Truth::True,",
+    ),
+    fault(
+        "unknown and false is unknown",
+        "comparing.rs",
+        "(Truth::False, _) | (_, Truth::False) => Truth::False",
+        "(Truth::False, Truth::False | Truth::True) | (Truth::True, Truth::False) => Truth::False",
+    ),
+    fault(
+        "a sign above 1 allows",
+        "calls.rs",
+        "            1 => Sign::Allow,\n            _ => return None,",
+        "            _ => Sign::Allow,",
+    ),
+    fault(
+        "a combination may leave two policies",
+        "calls.rs",
+        "policies.is_empty().then_some(whole)",
+        "Some(whole)",
+    ),
+    fault(
+        "a second open is let through",
+        "session.rs",
+        "(Call::Open { memory_cells }, Stage::Draft(draft)) => {",
+        "(Call::Open { .. }, Stage::Book(_)) => Outcome::Done,\n            (Call::Open { memory_cells }, Stage::Draft(draft)) => {",
+    ),
 ];
 
 fn main() -> ExitCode {
@@ -211,7 +486,12 @@ fn main() -> ExitCode {
     let mut missed = 0;
     for fault in FAULTS {
         let found = plant(fault, Path::new(sources), Path::new(folder)).and_then(|()| {
-            search(&Path::new(folder).join("evaluate"), count, seed, &mut Counts::default())
+            search(
+                &Path::new(folder).join("evaluate"),
+                count,
+                seed,
+                &mut Counts::default(),
+            )
         });
         match found {
             Ok(Some(found)) => println!("{:6}  {}", found.journals, fault.name),
@@ -226,18 +506,16 @@ fn main() -> ExitCode {
         }
     }
     println!("{} faults, {missed} of them missed", FAULTS.len());
-    if missed == 0 { ExitCode::SUCCESS } else { ExitCode::FAILURE }
+    if missed == 0 {
+        ExitCode::SUCCESS
+    } else {
+        ExitCode::FAILURE
+    }
 }
 
 /// Copies the sources into the folder, changes the one place, and builds the evaluator.
 fn plant(fault: &Fault, sources: &Path, folder: &Path) -> io::Result<()> {
-    fs::create_dir_all(folder)?;
-    for entry in fs::read_dir(sources)? {
-        let path = entry?.path();
-        if let Some(name) = path.file_name() {
-            fs::copy(&path, folder.join(name))?;
-        }
-    }
+    copy_folder(sources, folder)?;
     let file = folder.join(fault.file);
     let text = fs::read_to_string(&file)?;
     if text.matches(fault.right).count() != 1 {
@@ -246,17 +524,54 @@ fn plant(fault: &Fault, sources: &Path, folder: &Path) -> io::Result<()> {
     fs::write(&file, text.replace(fault.right, fault.wrong))?;
     let library = folder.join("libjournal.rlib");
     let of_library = ["--crate-type", "rlib", "--crate-name", "journal"];
-    compile(&folder.join("lib.rs"), &library, of_library.map(String::from).to_vec())?;
-    let of_program = ["--extern".to_string(), format!("journal={}", library.display())];
-    compile(&folder.join("evaluate.rs"), &folder.join("evaluate"), of_program.to_vec())
+    compile(
+        &folder.join("lib.rs"),
+        &library,
+        of_library.map(String::from).to_vec(),
+    )?;
+    let of_program = [
+        "--extern".to_string(),
+        format!("journal={}", library.display()),
+    ];
+    compile(
+        &folder.join("evaluate.rs"),
+        &folder.join("evaluate"),
+        of_program.to_vec(),
+    )
+}
+
+fn copy_folder(from: &Path, to: &Path) -> io::Result<()> {
+    fs::create_dir_all(to)?;
+    for entry in fs::read_dir(from)? {
+        let entry = entry?;
+        let copy = to.join(entry.file_name());
+        if entry.file_type()?.is_dir() {
+            copy_folder(&entry.path(), &copy)?;
+        } else {
+            fs::copy(entry.path(), copy)?;
+        }
+    }
+    Ok(())
 }
 
 fn compile(from: &Path, to: &Path, more: Vec<String>) -> io::Result<()> {
     let status = Command::new("rustc")
-        .args(["--edition", "2024", "-C", "opt-level=1", "-A", "warnings", "-o"])
+        .args([
+            "--edition",
+            "2024",
+            "-C",
+            "opt-level=1",
+            "-A",
+            "warnings",
+            "-o",
+        ])
         .arg(to)
         .args(more)
         .arg(from)
         .status()?;
-    if status.success() { Ok(()) } else { Err(io::Error::other("it does not compile")) }
+    if status.success() {
+        Ok(())
+    } else {
+        Err(io::Error::other("it does not compile"))
+    }
 }

@@ -41,7 +41,10 @@ fn write(count: u64, seed: u64, directory: &Path) -> std::io::Result<()> {
         let mut counts_with = counts.clone();
         let made = journal(seed, number, &mut counts_with);
         let (records, given) = bytes(&made);
-        let new: Vec<_> = traits(&made).into_iter().filter(|t| !shown.contains(t)).collect();
+        let new: Vec<_> = traits(&made)
+            .into_iter()
+            .filter(|t| !shown.contains(t))
+            .collect();
         // A trait not shown yet is worth some bytes, and no journal is worth very many.
         let length = records.len() + given.len();
         let fits = input.len() + outcomes.len() + length <= MOST_BYTES;
@@ -57,12 +60,19 @@ fn write(count: u64, seed: u64, directory: &Path) -> std::io::Result<()> {
     fs::write(directory.join("journals"), &input)?;
     fs::write(directory.join("outcomes"), &outcomes)?;
     counts.print();
-    println!("{} bytes of journals, {} bytes of outcomes", input.len(), outcomes.len());
+    println!(
+        "{} bytes of journals, {} bytes of outcomes",
+        input.len(),
+        outcomes.len()
+    );
     Ok(())
 }
 
 fn bytes(made: &Journal) -> (Vec<u8>, Vec<u8>) {
-    (made.records.concat(), made.outcomes.iter().flat_map(Outcome::bytes).collect())
+    (
+        made.records.concat(),
+        made.outcomes.iter().flat_map(Outcome::bytes).collect(),
+    )
 }
 
 /// What a journal shows: refusals with their places, and the sizes of replies.

@@ -77,7 +77,11 @@ impl Filter {
     }
 
     fn mark(&self, question: &Question) -> Mark {
-        let some_rule = |sign| self.rules.iter().any(|r| r.sign == sign && r.holds(question));
+        let some_rule = |sign| {
+            self.rules
+                .iter()
+                .any(|r| r.sign == sign && r.holds(question))
+        };
         if some_rule(Sign::Allow) && !some_rule(Sign::Prohibit) {
             Mark::Shown
         } else {
@@ -155,12 +159,8 @@ impl Policies {
         match policy {
             Policy::Filter(number) => self.filters[*number as usize].mark(question),
             Policy::Consents(number) => self.registers[*number as usize].mark(question),
-            Policy::Both(one, other) => {
-                self.mark(one, question).min(self.mark(other, question))
-            }
-            Policy::Either(one, other) => {
-                self.mark(one, question).max(self.mark(other, question))
-            }
+            Policy::Both(one, other) => self.mark(one, question).min(self.mark(other, question)),
+            Policy::Either(one, other) => self.mark(one, question).max(self.mark(other, question)),
         }
     }
 }

@@ -56,7 +56,12 @@ pub fn run(program: &Path, input: &[u8], patience: Duration) -> io::Result<Run> 
         }
         let (status, late) = end(&mut child, patience)?;
         let errors = errors.join().expect("the thread of standard error")?;
-        Ok(Run { output, errors, status, hung: hung || late })
+        Ok(Run {
+            output,
+            errors,
+            status,
+            hung: hung || late,
+        })
     })
 }
 
@@ -80,7 +85,10 @@ pub fn converse(
     calls: &[(Vec<u8>, Vec<u8>)],
     patience: Duration,
 ) -> io::Result<Option<usize>> {
-    let mut child = Command::new(program).stdin(Stdio::piped()).stdout(Stdio::piped()).spawn()?;
+    let mut child = Command::new(program)
+        .stdin(Stdio::piped())
+        .stdout(Stdio::piped())
+        .spawn()?;
     let mut to_child = child.stdin.take().expect("a pipe to the program");
     let mut output = child.stdout.take().expect("a pipe from the program");
     let (sender, chunks) = mpsc::channel();

@@ -53,7 +53,7 @@ impl Queries<'_> {
         let kinds = self.some_kinds();
         let budget = self.random.from_to(1, 9);
         let mut records = self.relation(&kinds, budget);
-        match self.random.below(9) {
+        match self.random.below(12) {
             0 => self.filled_up(records, &kinds, 15),
             1 => self.filled_up(records, &kinds, 16),
             2 => {
@@ -75,9 +75,11 @@ impl Queries<'_> {
                 records
             }
             4 => {
-                // A product of some relation with itself, as wide as it comes.
-                let again = records.clone();
-                let times = self.random.from_to(1, 3);
+                // A product of some relation with itself, soon too wide.
+                let budget = self.random.pick(&[1, 1, 3]);
+                let again = self.relation(&kinds, budget);
+                records = again.clone();
+                let times = self.random.from_to(8 / (kinds.len() + 1), 8 / kinds.len());
                 for _ in 0..times {
                     records.extend(again.clone());
                     records.push(record(4, &[]));
@@ -103,9 +105,23 @@ impl Queries<'_> {
             }
             7 => {
                 let count = self.random.from_to(7, 9);
-                let listed: Vec<u8> =
-                    (0..count).map(|_| self.random.below(kinds.len() + 1) as u8).collect();
+                let listed: Vec<u8> = (0..count)
+                    .map(|_| self.random.below(kinds.len() + 1) as u8)
+                    .collect();
                 records.push(record(3, &listed));
+                records
+            }
+            8..11 => {
+                let mut body = self.loose_comparison(kinds.len());
+                for _ in 0..self.random.below(3) {
+                    if self.random.percent(40) {
+                        body.extend(self.loose_comparison(kinds.len()));
+                    } else {
+                        body.extend(self.comparison(&kinds));
+                    }
+                    body.extend(record(0x13, &[]));
+                }
+                records.push(record(2, &body));
                 records
             }
             _ => {
@@ -116,12 +132,41 @@ impl Queries<'_> {
         }
     }
 
+    /// A comparison that need not fit, and now and then names a column too many.
+    fn loose_comparison(&mut self, width: usize) -> Vec<u8> {
+        let beyond = self.random.one_in(5) as usize;
+        let operator = match self.random.below(12) {
+            0 => self.random.pick(&[0, 7]),
+            _ => self.random.from_to(1, 6) as u8,
+        };
+        let mut body = vec![operator, self.random.below(width + beyond) as u8];
+        match self.random.below(3) {
+            0 => {
+                body.push(self.random.below(width + beyond) as u8);
+                record(0x10, &body)
+            }
+            1 => {
+                body.extend(self.random.pick(&self.pools.numbers).to_le_bytes());
+                record(0x11, &body)
+            }
+            _ => {
+                body.extend(self.random.pick(&self.pools.prefixes));
+                record(0x12, &body)
+            }
+        }
+    }
+
     fn tables(&self) -> Vec<usize> {
-        (0..TABLES).filter(|table| !self.columns[*table].is_empty()).collect()
+        (0..TABLES)
+            .filter(|table| !self.columns[*table].is_empty())
+            .collect()
     }
 
     fn kinds_of(&self, table: usize) -> Vec<Kind> {
-        self.columns[table].iter().map(|column| column.kind).collect()
+        self.columns[table]
+            .iter()
+            .map(|column| column.kind)
+            .collect()
     }
 
     /// The kinds of a table, or of a few of its columns.
@@ -170,7 +215,11 @@ impl Queries<'_> {
 
     fn two_parts(&mut self, left: &[Kind], right: &[Kind], budget: usize, kind: u16) -> Records {
         if budget < 3 {
-            return if kind == 4 { self.leaf(&[left, right].concat()) } else { self.leaf(left) };
+            return if kind == 4 {
+                self.leaf(&[left, right].concat())
+            } else {
+                self.leaf(left)
+            };
         }
         let share = self.random.from_to(1, budget - 2);
         let mut records = self.relation(left, share);
@@ -209,8 +258,11 @@ impl Queries<'_> {
     /// A table of these kinds, or else a project of one, or else products of such.
     fn leaf(&mut self, kinds: &[Kind]) -> Records {
         let tables = self.tables();
-        let same: Vec<usize> =
-            tables.iter().copied().filter(|t| self.kinds_of(*t) == kinds).collect();
+        let same: Vec<usize> = tables
+            .iter()
+            .copied()
+            .filter(|t| self.kinds_of(*t) == kinds)
+            .collect();
         if !same.is_empty() {
             return vec![table(self.random.pick(&same))];
         }
@@ -264,7 +316,10 @@ impl Queries<'_> {
         let share = self.random.from_to(1, count - 2);
         let mut body = self.conditions(kinds, share);
         body.extend(self.conditions(kinds, count - 1 - share));
-        body.extend(record(if self.random.percent(50) { 0x13 } else { 0x14 }, &[]));
+        body.extend(record(
+            if self.random.percent(50) { 0x13 } else { 0x14 },
+            &[],
+        ));
         body
     }
 
@@ -330,11 +385,16 @@ impl Queries<'_> {
             let mut body = self.ten_bytes(&kinds);
             for _ in 0..7 {
                 body.extend(self.ten_bytes(&kinds));
-                body.extend(record(if self.random.percent(20) { 0x13 } else { 0x14 }, &[]));
+                body.extend(record(
+                    if self.random.percent(20) { 0x13 } else { 0x14 },
+                    &[],
+                ));
             }
             records.push(record(2, &body));
         }
-        let listed: Vec<u8> = (0..last).map(|_| self.random.below(kinds.len()) as u8).collect();
+        let listed: Vec<u8> = (0..last)
+            .map(|_| self.random.below(kinds.len()) as u8)
+            .collect();
         records.push(record(3, &listed));
         records
     }
@@ -356,6 +416,7 @@ impl Queries<'_> {
     }
 }
 
-fn table(number: usize) -> Vec<u8> {
+/// A table record.
+pub fn table(number: usize) -> Vec<u8> {
     record(1, &[number as u8])
 }

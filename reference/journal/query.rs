@@ -82,9 +82,9 @@ fn read_body(kind: u16, body: &[u8]) -> Option<Body> {
     match (kind, body) {
         (1, [table]) => Some(Body::Table(*table)),
         (2, _) => Some(Body::Select(read_conditions(body)?)),
-        (3, _) if (1..=8).contains(&body.len()) => {
-            Some(Body::Project(body.iter().map(|column| *column as usize).collect()))
-        }
+        (3, _) if (1..=8).contains(&body.len()) => Some(Body::Project(
+            body.iter().map(|column| *column as usize).collect(),
+        )),
         (4, _) if empty => Some(Body::Product),
         (5, _) if empty => Some(Body::Union),
         (6, _) if empty => Some(Body::Difference),
@@ -116,7 +116,9 @@ fn read_condition(kind: u16, body: &[u8], truths: &mut Vec<Condition>) -> Option
             let right = match kind {
                 0x10 => Side::Column(bytes.one()? as usize),
                 0x11 => Side::Constant(Value::Number(bytes.four()?)),
-                _ => Side::Constant(Value::Prefix(Prefix::make(bytes.take(bytes.0.len())?).ok()?)),
+                _ => Side::Constant(Value::Prefix(
+                    Prefix::make(bytes.take(bytes.0.len())?).ok()?,
+                )),
             };
             bytes.end(Condition::Compare(operator, left, right))
         }
@@ -188,7 +190,11 @@ fn join_parts(
             (kinds, form)
         }
     };
-    Ok(Relation { record, kinds, form })
+    Ok(Relation {
+        record,
+        kinds,
+        form,
+    })
 }
 
 fn names_exist(condition: &Condition, width: usize) -> bool {

@@ -6,12 +6,12 @@ impl Random {
     /// The numbers of one journal: those of another number or seed have nothing to do with them.
     pub fn new(seed: u64, number: u64) -> Random {
         let mut random = Random(seed);
-        random.0 = random.next() ^ number.wrapping_mul(0xD6E8_FEB8_6659_FD93);
-        random.next();
+        random.0 = random.draw() ^ number.wrapping_mul(0xD6E8_FEB8_6659_FD93);
+        random.draw();
         random
     }
 
-    pub fn next(&mut self) -> u64 {
+    pub fn draw(&mut self) -> u64 {
         self.0 = self.0.wrapping_add(0x9E37_79B9_7F4A_7C15);
         let mut z = self.0;
         z = (z ^ (z >> 30)).wrapping_mul(0xBF58_476D_1CE4_E5B9);
@@ -20,12 +20,12 @@ impl Random {
     }
 
     pub fn byte(&mut self) -> u8 {
-        self.next() as u8
+        self.draw() as u8
     }
 
     /// A number below the bound, which is above 0.
     pub fn below(&mut self, bound: usize) -> usize {
-        (self.next() % bound as u64) as usize
+        (self.draw() % bound as u64) as usize
     }
 
     /// A number from the first to the last, both included.

@@ -67,27 +67,36 @@ impl Session {
             (Call::Rule { filter, rule }, _) => {
                 self.policies.filters[*filter as usize].add(*rule).into()
             }
-            (Call::Consent { register, entry }, _) => {
-                self.policies.registers[*register as usize].set(*entry).into()
-            }
+            (Call::Consent { register, entry }, _) => self.policies.registers[*register as usize]
+                .set(*entry)
+                .into(),
             (Call::Combine(policy), _) => {
                 self.policy = policy.clone();
                 Outcome::Done
             }
-            (Call::Declare { table, kind, domain }, Stage::Draft(draft)) => {
-                draft.declare(*table, *kind, *domain).into()
-            }
+            (
+                Call::Declare {
+                    table,
+                    kind,
+                    domain,
+                },
+                Stage::Draft(draft),
+            ) => draft.declare(*table, *kind, *domain).into(),
             (Call::Open { memory_cells }, Stage::Draft(draft)) => {
                 self.stage = Stage::Book(draft.open(*memory_cells));
                 Outcome::Done
             }
-            (Call::Store { table, cells }, Stage::Book(book)) => {
-                store(book, *table, cells).into()
-            }
+            (Call::Store { table, cells }, Stage::Book(book)) => store(book, *table, cells).into(),
             (Call::Strike { table, row }, Stage::Book(book)) => book.strike(*table, *row).into(),
-            (Call::Amend { table, row, column, cell }, Stage::Book(book)) => {
-                amend(book, *table, *row, *column, cell).into()
-            }
+            (
+                Call::Amend {
+                    table,
+                    row,
+                    column,
+                    cell,
+                },
+                Stage::Book(book),
+            ) => amend(book, *table, *row, *column, cell).into(),
             (Call::Ask(ask), Stage::Book(_)) => match self.ask(ask) {
                 Some(Ok(reply)) => Outcome::Replied(reply),
                 Some(Err(refusal)) => Outcome::Refused(refusal),
@@ -112,13 +121,7 @@ fn store(book: &mut Book, table: u8, cells: &[Written]) -> Result<(), Refusal> {
     book.store(table, &cells)
 }
 
-fn amend(
-    book: &mut Book,
-    table: u8,
-    row: u16,
-    column: u8,
-    cell: &Written,
-) -> Result<(), Refusal> {
+fn amend(book: &mut Book, table: u8, row: u16, column: u8, cell: &Written) -> Result<(), Refusal> {
     book.amend(table, row, column, cell.make()?)
 }
 

@@ -101,18 +101,29 @@ fn call(bytes: &[u8]) -> Option<Call> {
 
 /// Calls that say less than this one.
 fn smaller(bytes: &[u8]) -> Vec<Vec<u8>> {
-    let Some(read) = call(bytes) else { return Vec::new() };
+    let Some(read) = call(bytes) else {
+        return Vec::new();
+    };
     let simpler: Vec<Call> = match read {
         Call::Ask(ask) => {
             let mut asks: Vec<Ask> = smaller_queries(&ask.query)
                 .into_iter()
-                .map(|query| Ask { query, ..ask.clone() })
+                .map(|query| Ask {
+                    query,
+                    ..ask.clone()
+                })
                 .collect();
             if ask.workspace_cells != 122_880 {
-                asks.push(Ask { workspace_cells: 122_880, ..ask.clone() });
+                asks.push(Ask {
+                    workspace_cells: 122_880,
+                    ..ask.clone()
+                });
             }
             if ask.reply_bytes != 43_016 {
-                asks.push(Ask { reply_bytes: 43_016, ..ask.clone() });
+                asks.push(Ask {
+                    reply_bytes: 43_016,
+                    ..ask.clone()
+                });
             }
             asks.into_iter().map(Call::Ask).collect()
         }
@@ -123,8 +134,18 @@ fn smaller(bytes: &[u8]) -> Vec<Vec<u8>> {
                 Some(Call::Store { table, cells })
             })
             .collect(),
-        Call::Amend { table, row, column, cell } => shorter(&cell)
-            .map(|cell| Call::Amend { table, row, column, cell })
+        Call::Amend {
+            table,
+            row,
+            column,
+            cell,
+        } => shorter(&cell)
+            .map(|cell| Call::Amend {
+                table,
+                row,
+                column,
+                cell,
+            })
             .into_iter()
             .collect(),
         Call::Combine(_) => {

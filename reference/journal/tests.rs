@@ -2,10 +2,13 @@
 
 use crate::answer::answer;
 use crate::ask::Ask;
+use crate::book::{Book, TABLES};
 use crate::bytes::Bytes;
 use crate::calls::Call;
-use crate::cells::{Cell, Prefix, Pseudonym, Row, Value, Variable};
+use crate::cells::{Cell, Kind, Prefix, Pseudonym, Row, Value, Variable};
 use crate::comparing::{Operator, Truth, compare};
+use crate::counts::Counts;
+use crate::generate::journal;
 use crate::query::{Relation, read};
 use crate::random::Random;
 use crate::rows::compatible;
@@ -98,14 +101,27 @@ fn carry_out(session: &mut Session, journal: &[u8]) -> Vec<u8> {
     let mut given = Vec::new();
     while let Some((kind, body)) = left.record() {
         let call = Call::read(kind, body).expect("a call");
-        given.extend(session.carry_out(&call).expect("a call in its place").bytes());
+        given.extend(
+            session
+                .carry_out(&call)
+                .expect("a call in its place")
+                .bytes(),
+        );
     }
     given
 }
 
 fn ask(broker: u16, query: &[u8], workspace_cells: u32, reply_bytes: u32) -> Vec<u8> {
-    let ask = Ask { broker, query: query.to_vec(), workspace_cells, reply_bytes };
-    sample().carry_out(&Call::Ask(ask)).expect("an ask in its place").bytes()
+    let ask = Ask {
+        broker,
+        query: query.to_vec(),
+        workspace_cells,
+        reply_bytes,
+    };
+    sample()
+        .carry_out(&Call::Ask(ask))
+        .expect("an ask in its place")
+        .bytes()
 }
 
 fn seven(query: &str) -> Vec<u8> {
@@ -115,7 +131,9 @@ fn seven(query: &str) -> Vec<u8> {
 #[test]
 fn the_sample_is_stored_and_full_at_three_rows() {
     let mut session = sample();
-    let Stage::Book(book) = &session.stage else { panic!("a book is open") };
+    let Stage::Book(book) = &session.stage else {
+        panic!("a book is open")
+    };
     assert_eq!(book.row_limit, 3);
     assert_eq!(book.rows[0].len(), 3);
     let fourth = bytes("0F 00 33 00 00 02 02 34 38 01 01 00 00 00 01 54 0B 00 00");
@@ -132,7 +150,12 @@ fn the_view_of_the_sample() {
     ];
     assert_eq!(sample_view(7)[0], rows);
     let other = sample_view(8);
-    assert!(other[0].iter().flatten().all(|cell| matches!(cell, Cell::Variable(_))));
+    assert!(
+        other[0]
+            .iter()
+            .flatten()
+            .all(|cell| matches!(cell, Cell::Variable(_)))
+    );
     assert_eq!(other[0].iter().flatten().count(), 9);
 }
 
@@ -142,9 +165,18 @@ fn the_replies_of_the_sample() {
     assert_eq!(seven(COVERS), bytes(COVERS_REPLY));
     assert_eq!(seven(LONGEST), bytes(LONGEST_REPLY));
     assert_eq!(seven(WITH_ITSELF), bytes(WITH_ITSELF_REPLY));
-    assert_eq!(ask(8, &bytes(OTHER_BROKER), 1920, 4096), bytes(OTHER_BROKER_REPLY));
-    let lengths = [CARRIER_AND_PRICE, COVERS, LONGEST, WITH_ITSELF, OTHER_BROKER]
-        .map(|query| bytes(query).len());
+    assert_eq!(
+        ask(8, &bytes(OTHER_BROKER), 1920, 4096),
+        bytes(OTHER_BROKER_REPLY)
+    );
+    let lengths = [
+        CARRIER_AND_PRICE,
+        COVERS,
+        LONGEST,
+        WITH_ITSELF,
+        OTHER_BROKER,
+    ]
+    .map(|query| bytes(query).len());
     assert_eq!(lengths, [11, 20, 86, 16, 10]);
 }
 
@@ -173,7 +205,12 @@ fn the_answers_of_each_record_of_the_longest_prefix() {
             7 => (vec![], vec![pair(&a, &b), pair(&b, &a)]),
             _ => (vec![], vec![a.clone(), b.clone()]),
         };
-        assert_eq!((found.low, found.high), (low, high), "record {}", relation.record);
+        assert_eq!(
+            (found.low, found.high),
+            (low, high),
+            "record {}",
+            relation.record
+        );
     }
 }
 
@@ -190,7 +227,10 @@ fn the_limits_of_the_sample() {
     assert_eq!(ask(7, &longest, 1920, 43), bytes("02 00 23 00 16 0A"));
     assert_eq!(ask(7, &longest, 960, 4096), longest_reply);
     assert_eq!(ask(7, &longest, 959, 4096), bytes("02 00 23 00 15 06"));
-    assert_eq!(ask(7, &projected, 720, 4096), bytes(CARRIER_AND_PRICE_REPLY));
+    assert_eq!(
+        ask(7, &projected, 720, 4096),
+        bytes(CARRIER_AND_PRICE_REPLY)
+    );
     assert_eq!(ask(7, &projected, 719, 4096), bytes("02 00 23 00 15 00"));
     assert_eq!(ask(7, &[], 1920, 4096), bytes("02 00 23 00 0B 00"));
     assert_eq!(ask(7, &filled, 1920, 4096), bytes(WITH_ITSELF_REPLY));
@@ -208,7 +248,10 @@ fn the_journal_of_the_sample() {
     let (given, bad) = outcomes(&journal);
     assert_eq!(bad, None);
     let given: Vec<u8> = given.iter().flat_map(Outcome::bytes).collect();
-    assert_eq!(given, [bytes("00 00 24 00").repeat(11), bytes(COVERS_REPLY)].concat());
+    assert_eq!(
+        given,
+        [bytes("00 00 24 00").repeat(11), bytes(COVERS_REPLY)].concat()
+    );
 }
 
 #[test]
@@ -240,25 +283,40 @@ fn a_missing_column_goes_before_a_comparison_that_does_not_fit() {
 fn an_index_of_two_bytes() {
     // Two linked cells a row, and in row 150 the second, number 301, has a value of its own.
     let mut session = Session::default();
-    carry_out(&mut session, &bytes("
+    carry_out(
+        &mut session,
+        &bytes(
+            "
         03 00 31 00 03 01 02
         03 00 31 00 03 01 02
         04 00 32 00 00 20 00 00
         07 00 37 00 00 09 00 00 00 00 03
-        01 00 38 00 10"));
+        01 00 38 00 10",
+        ),
+    );
     for row in 0..151 {
         let last = if row == 150 { 5 } else { 9 };
         let store = format!("0B 00 33 00 03 01 09 00 00 00 01 {last:02X} 00 00 00");
-        assert_eq!(carry_out(&mut session, &bytes(&store)), bytes("00 00 24 00"));
+        assert_eq!(
+            carry_out(&mut session, &bytes(&store)),
+            bytes("00 00 24 00")
+        );
     }
-    let reply = carry_out(&mut session, &bytes("
+    let reply = carry_out(
+        &mut session,
+        &bytes(
+            "
         14 00 39 00 00 00 00 E0 01 00 00 10 00 00
            01 00 01 00 03
-           01 00 03 00 01"));
-    let expected = bytes("
+           01 00 03 00 01",
+        ),
+    );
+    let expected = bytes(
+        "
         04 00 20 00 02 00 00 00
         04 00 21 00 04 02 00 00
-        04 00 21 00 04 02 2D 01");
+        04 00 21 00 04 02 2D 01",
+    );
     assert_eq!(reply, expected);
 }
 
@@ -266,7 +324,10 @@ fn an_index_of_two_bytes() {
 fn indices_of_pseudonyms() {
     // The linked cells of domain 2 hold 9, 9, 7, 9.
     let mut session = Session::default();
-    carry_out(&mut session, &bytes("
+    carry_out(
+        &mut session,
+        &bytes(
+            "
         03 00 31 00 03 01 00
         03 00 31 00 03 01 02
         03 00 31 00 03 01 02
@@ -274,13 +335,24 @@ fn indices_of_pseudonyms() {
         07 00 37 00 00 01 00 00 00 00 06
         01 00 38 00 10
         10 00 33 00 03 01 01 00 00 00 01 09 00 00 00 01 09 00 00 00
-        10 00 33 00 03 01 01 00 00 00 01 07 00 00 00 01 09 00 00 00"));
-    let Stage::Book(book) = &session.stage else { panic!("a book is open") };
+        10 00 33 00 03 01 01 00 00 00 01 07 00 00 00 01 09 00 00 00",
+        ),
+    );
+    let Stage::Book(book) = &session.stage else {
+        panic!("a book is open")
+    };
     let drawn = view(book, &session.policies, &session.policy, 0);
     let cells: Vec<Cell> = drawn[3].iter().flat_map(|row| row[1..].to_vec()).collect();
     assert_eq!(cells, [0, 0, 2, 0].map(|index| pseudonym(2, index)));
     // Linked or hidden in domain 0 is a variable.
-    assert_eq!(drawn[3][1][0], Cell::Variable(Variable { table: 3, row: 1, column: 0 }));
+    assert_eq!(
+        drawn[3][1][0],
+        Cell::Variable(Variable {
+            table: 3,
+            row: 1,
+            column: 0
+        })
+    );
 }
 
 #[test]
@@ -314,7 +386,10 @@ fn compatible_as_trying_valuations_says() {
         assert_eq!(compatible(&right, &left), tried, "{right:?} {left:?}");
         yes += tried as u32;
     }
-    assert!((15_000..50_000).contains(&yes), "{yes} of 60,000 are compatible");
+    assert!(
+        (15_000..50_000).contains(&yes),
+        "{yes} of 60,000 are compatible"
+    );
 }
 
 fn some_cell(random: &mut Random) -> Cell {
@@ -369,9 +444,9 @@ fn try_values(given: &mut Vec<u32>, symbols: &[Cell], left: &[Cell], right: &[Ce
 fn comparing_two_values() {
     use Operator::*;
     let holds = |operator, left: Cell, right: Cell| compare(operator, &left, &right);
-    let numbers = |operator| [(1, 2), (2, 2), (3, 2)].map(|(l, r)| {
-        holds(operator, number(l), number(r)) == Truth::True
-    });
+    let numbers = |operator| {
+        [(1, 2), (2, 2), (3, 2)].map(|(l, r)| holds(operator, number(l), number(r)) == Truth::True)
+    };
     assert_eq!(numbers(Equal), [false, true, false]);
     assert_eq!(numbers(Unequal), [true, false, true]);
     assert_eq!(numbers(Less), [true, false, false]);
@@ -407,10 +482,12 @@ fn comparing_symbols() {
 #[test]
 fn and_or_not() {
     let (t, u, f) = (Truth::True, Truth::Unknown, Truth::False);
-    for (p, not, and, or) in
-        [(t, f, [t, u, f], [t, t, t]), (u, u, [u, u, f], [t, u, u]), (f, t, [f, f, f], [t, u, f])]
-    {
-        assert_eq!(p.not(), not);
+    for (p, not, and, or) in [
+        (t, f, [t, u, f], [t, t, t]),
+        (u, u, [u, u, f], [t, u, u]),
+        (f, t, [f, f, f], [t, u, f]),
+    ] {
+        assert_eq!(p.negated(), not);
         assert_eq!([t, u, f].map(|q| p.and(q)), and);
         assert_eq!([t, u, f].map(|q| p.or(q)), or);
     }
@@ -425,7 +502,10 @@ fn bad_journals() {
     };
     assert_eq!(ends(""), (0, None));
     assert_eq!(ends("00 00 30 00 00 00 30"), (1, Some(Bad::CutOff)));
-    assert_eq!(ends("00 00 30 00 03 00 31 00 00 01"), (1, Some(Bad::CutOff)));
+    assert_eq!(
+        ends("00 00 30 00 03 00 31 00 00 01"),
+        (1, Some(Bad::CutOff))
+    );
     assert_eq!(ends("00 00 3A 00"), (0, Some(Bad::UnknownKind)));
     assert_eq!(ends("00 00 30 01"), (0, Some(Bad::UnknownKind)));
     assert_eq!(ends("01 00 30 00 00"), (0, Some(Bad::WrongForm)));
@@ -435,7 +515,129 @@ fn bad_journals() {
     let open = "04 00 32 00 60 00 00 00";
     assert_eq!(ends(&format!("{open} {open}")), (1, Some(Bad::OutOfPlace)));
     assert_eq!(ends(&format!("{open} 01 00 33 00 00")), (2, None));
-    assert_eq!(ends(&format!("{open} 03 00 31 00 00 01 00")), (1, Some(Bad::OutOfPlace)));
+    assert_eq!(
+        ends(&format!("{open} 03 00 31 00 00 01 00")),
+        (1, Some(Bad::OutOfPlace))
+    );
+}
+
+/// What is certain is true and nothing possible is missing, for the asks of random journals and
+/// a few random lawful valuations of each view.
+#[test]
+fn answers_stand_under_valuations() {
+    let mut random = Random::new(12, 2);
+    let mut tried = 0;
+    let mut telling = 0;
+    for number in 0..1500 {
+        let made = journal(77, number, &mut Counts::default());
+        let mut session = Session::default();
+        for record in &made.records {
+            let Some((kind, body)) = Bytes(record).record() else {
+                break;
+            };
+            let Ok(call) = Call::read(kind, body) else {
+                break;
+            };
+            let Ok(outcome) = session.carry_out(&call) else {
+                break;
+            };
+            if let (Call::Ask(ask), Outcome::Replied(reply)) = (&call, &outcome) {
+                let Stage::Book(book) = &session.stage else {
+                    panic!("a book is open")
+                };
+                let seen = view(book, &session.policies, &session.policy, ask.broker);
+                let query = read(&ask.query, &book.columns).expect("a well-formed query");
+                if seen.iter().flatten().count() > 60 {
+                    continue;
+                }
+                for _ in 0..3 {
+                    let valuation = some_lawful_valuation(&mut random, &seen, book);
+                    let rows = |rows: &[Row]| -> Vec<Row> {
+                        rows.iter().map(|row| under(&valuation, row)).collect()
+                    };
+                    let unmasked = seen.clone().map(|table| rows(&table));
+                    let Ok(truth) = answer(&query, &unmasked, 20_000) else {
+                        continue;
+                    };
+                    assert_eq!(truth.low, truth.high);
+                    let certain = rows(&reply.certain);
+                    let possible = rows(&reply.possible);
+                    assert!(certain.iter().all(|row| truth.low.contains(row)));
+                    assert!(
+                        truth
+                            .low
+                            .iter()
+                            .all(|row| certain.contains(row) || possible.contains(row))
+                    );
+                    tried += 1;
+                    telling += (certain.len() < truth.low.len()) as u32;
+                }
+            }
+        }
+    }
+    assert!(tried > 5000, "{tried} answers were tried");
+    assert!(telling > 1000, "in {telling} something possible was true");
+}
+
+type Valuation = Vec<(Cell, Value)>;
+
+/// Values drawn from few, so that many symbols get the same one where they may.
+fn some_lawful_valuation(random: &mut Random, view: &View, book: &Book) -> Valuation {
+    let mut valuation = Valuation::new();
+    for table in 0..TABLES {
+        for row in &view[table] {
+            for (column, cell) in row.iter().enumerate() {
+                let known = valuation.iter().any(|(symbol, _)| symbol == cell);
+                if known || matches!(cell, Cell::Value(_)) {
+                    continue;
+                }
+                let kind = book.columns[table][column].kind;
+                loop {
+                    let value = some_value(random, book, kind);
+                    let lawful = valuation
+                        .iter()
+                        .all(|(symbol, other)| match (symbol, cell) {
+                            (Cell::Pseudonym(one), Cell::Pseudonym(two)) => {
+                                one.domain != two.domain || *other != value
+                            }
+                            _ => true,
+                        });
+                    if lawful {
+                        valuation.push((*cell, value));
+                        break;
+                    }
+                }
+            }
+        }
+    }
+    valuation
+}
+
+/// A value of the book where one of the kind is met, or a random one.
+fn some_value(random: &mut Random, book: &Book, kind: Kind) -> Value {
+    let rows: Vec<&Vec<Value>> = book.rows.iter().flatten().collect();
+    if random.percent(60) {
+        let row = rows[random.below(rows.len())];
+        let value = row[random.below(row.len())];
+        if value.kind() == kind {
+            return value;
+        }
+    }
+    match kind {
+        Kind::Number => Value::Number(random.below(200) as u32),
+        Kind::Prefix => {
+            let digits = format!("{}", random.below(500));
+            Value::Prefix(Prefix::make(digits.as_bytes()).expect("digits"))
+        }
+    }
+}
+
+fn under(valuation: &Valuation, row: &Row) -> Row {
+    let value = |cell: &Cell| match valuation.iter().find(|(symbol, _)| symbol == cell) {
+        Some((_, value)) => Cell::Value(*value),
+        None => *cell,
+    };
+    row.iter().map(value).collect()
 }
 
 fn number(number: u32) -> Cell {
@@ -443,11 +645,17 @@ fn number(number: u32) -> Cell {
 }
 
 fn prefix(digits: &str) -> Cell {
-    Cell::Value(Value::Prefix(Prefix::make(digits.as_bytes()).expect("digits")))
+    Cell::Value(Value::Prefix(
+        Prefix::make(digits.as_bytes()).expect("digits"),
+    ))
 }
 
 fn variable(row: u8) -> Cell {
-    Cell::Variable(Variable { table: 0, row, column: 0 })
+    Cell::Variable(Variable {
+        table: 0,
+        row,
+        column: 0,
+    })
 }
 
 fn pseudonym(domain: u8, index: u16) -> Cell {
@@ -456,13 +664,17 @@ fn pseudonym(domain: u8, index: u16) -> Cell {
 
 fn sample_view(broker: u16) -> View {
     let session = sample();
-    let Stage::Book(book) = &session.stage else { panic!("a book is open") };
+    let Stage::Book(book) = &session.stage else {
+        panic!("a book is open")
+    };
     view(book, &session.policies, &session.policy, broker)
 }
 
 fn sample_query(query: &[u8]) -> Relation {
     let session = sample();
-    let Stage::Book(book) = &session.stage else { panic!("a book is open") };
+    let Stage::Book(book) = &session.stage else {
+        panic!("a book is open")
+    };
     read(query, &book.columns).expect("a well-formed query")
 }
 

@@ -9,13 +9,21 @@ pub type View = [Vec<Row>; TABLES];
 pub fn view(book: &Book, policies: &Policies, policy: &Policy, broker: u16) -> View {
     let mut domains: [LinkedCells; 16] = Default::default();
     let mut view = View::default();
-    for table in 0..TABLES {
-        for (number, row) in book.rows[table].iter().enumerate() {
+    for (table, rows) in book.rows.iter().enumerate() {
+        for (number, row) in rows.iter().enumerate() {
             let mut cells = Row::with_capacity(row.len());
             for (column, value) in row.iter().enumerate() {
-                let place =
-                    Variable { table: table as u8, row: number as u8, column: column as u8 };
-                let question = Question { broker, table: place.table, row, column: place.column };
+                let place = Variable {
+                    table: table as u8,
+                    row: number as u8,
+                    column: column as u8,
+                };
+                let question = Question {
+                    broker,
+                    table: place.table,
+                    row,
+                    column: place.column,
+                };
                 let domain = book.columns[table][column].domain;
                 cells.push(match policies.mark(policy, &question) {
                     Mark::Shown => Cell::Value(*value),

@@ -8,7 +8,9 @@ use crate::policy::{Columns, Policy, Sign, Test};
 pub fn print_journal(records: &[Vec<u8>]) {
     for (number, record) in records.iter().enumerate() {
         println!("call {number}");
-        let call = Bytes(record).record().map(|(kind, body)| Call::read(kind, body));
+        let call = Bytes(record)
+            .record()
+            .map(|(kind, body)| Call::read(kind, body));
         match call {
             Some(Ok(Call::Ask(ask))) => {
                 println!("  {}", hexadecimal(&record[..14]));
@@ -116,7 +118,11 @@ fn condition_words(kind: u16, body: &[u8]) -> String {
             format!("column {left} {} {number}", operator(*o))
         }
         (0x12, [o, left, digits @ ..]) => {
-            format!("column {left} {} \"{}\"", operator(*o), String::from_utf8_lossy(digits))
+            format!(
+                "column {left} {} \"{}\"",
+                operator(*o),
+                String::from_utf8_lossy(digits)
+            )
         }
         (0x13, _) => "and".to_string(),
         (0x14, _) => "or".to_string(),
@@ -128,7 +134,11 @@ fn condition_words(kind: u16, body: &[u8]) -> String {
 fn words(call: &Call) -> String {
     match call {
         Call::Begin => "begin".to_string(),
-        Call::Declare { table, kind, domain } => {
+        Call::Declare {
+            table,
+            kind,
+            domain,
+        } => {
             let kind = match kind {
                 1 => "a number".to_string(),
                 2 => "a prefix".to_string(),
@@ -142,8 +152,16 @@ fn words(call: &Call) -> String {
             format!("store into table {table}: {}", cells.join(", "))
         }
         Call::Strike { table, row } => format!("strike table {table} row {row}"),
-        Call::Amend { table, row, column, cell } => {
-            format!("amend table {table} row {row} column {column}: {}", cell_words(cell))
+        Call::Amend {
+            table,
+            row,
+            column,
+            cell,
+        } => {
+            format!(
+                "amend table {table} row {row} column {column}: {}",
+                cell_words(cell)
+            )
         }
         Call::Rule { filter, rule } => {
             let sign = match rule.sign {
@@ -178,7 +196,9 @@ fn cell_words(cell: &Written) -> String {
 }
 
 fn columns_words(columns: Columns) -> String {
-    let held: Vec<u8> = (0..8).filter(|column| columns.0 >> column & 1 == 1).collect();
+    let held: Vec<u8> = (0..8)
+        .filter(|column| columns.0 >> column & 1 == 1)
+        .collect();
     format!("{held:?}")
 }
 
