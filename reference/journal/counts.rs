@@ -3,7 +3,8 @@
 use std::collections::{BTreeMap, BTreeSet};
 
 use crate::calls::Call;
-use crate::cells::Cell;
+use crate::cells::{Cell, Value};
+use crate::comparing::Operator;
 use crate::policy::Policy;
 use crate::query::{Condition, Form, Relation, Side, read};
 use crate::session::{Outcome, Session, Stage};
@@ -18,6 +19,7 @@ pub struct Counts {
     pub well_formed: u64,
     pub refusals: BTreeMap<u8, u64>,
     pub places: BTreeMap<u8, BTreeSet<u8>>,
+    /// Answered asks whose query has such a record, condition or operator.
     pub records: BTreeMap<&'static str, u64>,
     pub conditions: BTreeMap<&'static str, u64>,
     pub replies_with: BTreeMap<&'static str, u64>,
@@ -45,7 +47,7 @@ impl Counts {
                 if let Ok(query) = read(&ask.query, &book.columns) {
                     self.well_formed += 1;
                     if let Outcome::Replied(reply) = outcome {
-                        self.see_relation(&query);
+                        self.see_query(&query);
                         self.see_reply(&reply.certain, &reply.possible);
                     }
                 }
@@ -74,59 +76,16 @@ impl Counts {
         }
     }
 
-    fn see_relation(&mut self, relation: &Relation) {
-        let (name, parts): (_, Vec<&Relation>) = match &relation.form {
-            Form::Table(_) => ("table", vec![]),
-            Form::Select(part, condition) => {
-                self.see_condition(condition);
-                ("select", vec![part])
-            }
-            Form::Project(part, _) => ("project", vec![part]),
-            Form::Product(left, right) => ("product", vec![left, right]),
-            Form::Union(left, right) => ("union", vec![left, right]),
-            Form::Difference(left, right) => ("difference", vec![left, right]),
-        };
-        *self.records.entry(name).or_default() += 1;
-        for part in parts {
-            self.see_relation(part);
+    fn see_query(&mut self, query: &Relation) {
+        let mut records = BTreeSet::new();
+        let mut conditions = BTreeSet::new();
+        name_records(query, &mut records, &mut conditions);
+        for name in records {
+            *self.records.entry(name).or_default() += 1;
         }
-    }
-
-    fn see_condition(&mut self, condition: &Condition) {
-        use crate::comparing::Operator::*;
-        let name = match condition {
-            Condition::Compare(operator, _, side) => {
-                let operator = match operator {
-                    Equal => "equal",
-                    Unequal => "unequal",
-                    Less => "less",
-                    AtMost => "at most",
-                    Covers => "covers",
-                    Shorter => "shorter",
-                };
-                *self.conditions.entry(operator).or_default() += 1;
-                match side {
-                    Side::Column(_) => "compare with a column",
-                    Side::Constant(crate::cells::Value::Number(_)) => "compare with a number",
-                    Side::Constant(crate::cells::Value::Prefix(_)) => "compare with a prefix",
-                }
-            }
-            Condition::And(one, other) => {
-                self.see_condition(one);
-                self.see_condition(other);
-                "and"
-            }
-            Condition::Or(one, other) => {
-                self.see_condition(one);
-                self.see_condition(other);
-                "or"
-            }
-            Condition::Not(one) => {
-                self.see_condition(one);
-                "not"
-            }
-        };
-        *self.conditions.entry(name).or_default() += 1;
+        for name in conditions {
+            *self.conditions.entry(name).or_default() += 1;
+        }
     }
 
     pub fn print(&self) {
@@ -144,9 +103,59 @@ impl Counts {
         }
         println!("asks with a well-formed query {}", self.well_formed);
         print_list("replies with", &self.replies_with);
-        print_list("records answered", &self.records);
-        print_list("conditions and operators answered", &self.conditions);
+        print_list("answered asks with the record", &self.records);
+        print_list(
+            "answered asks with the condition or operator",
+            &self.conditions,
+        );
         print_list("piles by depth", &self.piles);
+    }
+}
+
+type Names = BTreeSet<&'static str>;
+
+fn name_records(relation: &Relation, records: &mut Names, conditions: &mut Names) {
+    let (name, parts): (_, Vec<&Relation>) = match &relation.form {
+        Form::Table(_) => ("table", vec![]),
+        Form::Select(part, condition) => {
+            name_conditions(condition, conditions);
+            ("select", vec![part])
+        }
+        Form::Project(part, _) => ("project", vec![part]),
+        Form::Product(left, right) => ("product", vec![left, right]),
+        Form::Union(left, right) => ("union", vec![left, right]),
+        Form::Difference(left, right) => ("difference", vec![left, right]),
+    };
+    records.insert(name);
+    for part in parts {
+        name_records(part, records, conditions);
+    }
+}
+
+fn name_conditions(condition: &Condition, names: &mut Names) {
+    let (name, parts): (_, Vec<&Condition>) = match condition {
+        Condition::Compare(operator, _, side) => {
+            names.insert(match operator {
+                Operator::Equal => "equal",
+                Operator::Unequal => "unequal",
+                Operator::Less => "less",
+                Operator::AtMost => "at most",
+                Operator::Covers => "covers",
+                Operator::Shorter => "shorter",
+            });
+            match side {
+                Side::Column(_) => ("compare with a column", vec![]),
+                Side::Constant(Value::Number(_)) => ("compare with a number", vec![]),
+                Side::Constant(Value::Prefix(_)) => ("compare with a prefix", vec![]),
+            }
+        }
+        Condition::And(one, other) => ("and", vec![one, other]),
+        Condition::Or(one, other) => ("or", vec![one, other]),
+        Condition::Not(one) => ("not", vec![one]),
+    };
+    names.insert(name);
+    for part in parts {
+        name_conditions(part, names);
     }
 }
 

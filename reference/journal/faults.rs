@@ -471,6 +471,102 @@ const FAULTS: &[Fault] = &[
         "(Call::Open { memory_cells }, Stage::Draft(draft)) => {",
         "(Call::Open { .. }, Stage::Book(_)) => Outcome::Done,\n            (Call::Open { memory_cells }, Stage::Draft(draft)) => {",
     ),
+    fault(
+        "a low union takes right high rows",
+        "answer.rs",
+        "left.low.into_iter().chain(right.low)",
+        "left.low.into_iter().chain(right.high.clone())",
+    ),
+    fault(
+        "repeats count towards C",
+        "answer.rs",
+        "    let mut kept: Vec<Row> = Vec::new();\n    for row in rows {",
+        "    let mut kept: Vec<Row> = Vec::new();\n    let rows: Vec<Row> = rows.collect();\n    if rows.len() > most {\n        return None;\n    }\n    for row in rows {",
+    ),
+    fault(
+        "the place of 21 is the last record",
+        "answer.rs",
+        "(Some(low), Some(high)) => Ok(Answer { low, high }),\n        _ => Err(Refusal::TooManyRows(relation.record)),",
+        "(Some(low), Some(high)) => Ok(Answer { low, high }),\n        _ => Err(Refusal::TooManyRows(relation.record.max(1))),",
+    ),
+    fault(
+        "the place of 22 is the last record",
+        "ask.rs",
+        "query.record + 1",
+        "query.record",
+    ),
+    fault(
+        "the place of 20 is the last record",
+        "query.rs",
+        "Refusal::NotOneRelation(record)",
+        "Refusal::NotOneRelation(record - 1)",
+    ),
+    fault(
+        "keys are known by their low two bytes",
+        "policy.rs",
+        "find(|entry| entry.key == *key)",
+        "find(|entry| entry.key as u16 == *key as u16)",
+    ),
+    fault(
+        "numbers are compared with a sign",
+        "comparing.rs",
+        "=> left < right,",
+        "=> (*left as i32) < (*right as i32),",
+    ),
+    fault(
+        "prefixes are equal where their numbers are",
+        "comparing.rs",
+        "(Operator::Equal, _, _) => left == right,",
+        "(Operator::Equal, Value::Prefix(left), Value::Prefix(right)) => { let number = |digits: &[u8]| digits.iter().fold(0, |n: u64, digit| n * 10 + (*digit - b'0') as u64); number(left.digits()) == number(right.digits()) } (Operator::Equal, _, _) => left == right,",
+    ),
+    fault(
+        "the row limit is for all tables together",
+        "book.rs",
+        "self.rows[table].len() >= self.row_limit",
+        "self.rows.iter().map(Vec::len).sum::<usize>() >= self.row_limit",
+    ),
+    fault(
+        "domain 16 is let in",
+        "book.rs",
+        "if domain > 15 ||",
+        "if domain > 16 ||",
+    ),
+    fault(
+        "a ninth column is let in",
+        "book.rs",
+        "self.columns[table].len() >= 8",
+        "self.columns[table].len() >= 9",
+    ),
+    fault(
+        "an unknown kind is told before a ninth column",
+        "book.rs",
+        "if self.columns[table].len() >= 8",
+        "if (1..=2).contains(&kind) && self.columns[table].len() >= 8",
+    ),
+    fault(
+        "a wrong domain is told before an unknown kind",
+        "book.rs",
+        "let kind = match kind {",
+        "if domain > 15 {\n            return Err(Refusal::WrongDomain);\n        }\n        let kind = match kind {",
+    ),
+    fault(
+        "a missing table is told before a wrong prefix in an amend",
+        "session.rs",
+        "book.amend(table, row, column, cell.make()?)",
+        "if table > 3 {\n        return Err(Refusal::NoTable);\n    }\n    book.amend(table, row, column, cell.make()?)",
+    ),
+    fault(
+        "a row number is read from its low byte",
+        "session.rs",
+        "book.strike(*table, *row)",
+        "book.strike(*table, *row as u8 as u16)",
+    ),
+    fault(
+        "a store refused as full still stores",
+        "book.rs",
+        "            return Err(Refusal::TableFull);",
+        "            self.rows[table].push(cells.to_vec());\n            return Err(Refusal::TableFull);",
+    ),
 ];
 
 fn main() -> ExitCode {

@@ -38,10 +38,10 @@ fn write(count: u64, seed: u64, directory: &Path) -> std::io::Result<()> {
     let mut counts = Counts::default();
     let mut shown = BTreeSet::new();
     for number in 0..count {
-        let mut counts_with = counts.clone();
-        let made = journal(seed, number, &mut counts_with);
+        let mut own = Counts::default();
+        let made = journal(seed, number, &mut own);
         let (records, given) = bytes(&made);
-        let new: Vec<_> = traits(&made)
+        let new: Vec<String> = traits(&made, &own)
             .into_iter()
             .filter(|t| !shown.contains(t))
             .collect();
@@ -51,7 +51,7 @@ fn write(count: u64, seed: u64, directory: &Path) -> std::io::Result<()> {
         if made.bad || !fits || length > 12_000 || length > 1000 * new.len() {
             continue;
         }
-        counts = counts_with;
+        journal(seed, number, &mut counts);
         shown.extend(new);
         input.extend(records);
         outcomes.extend(given);
@@ -75,21 +75,20 @@ fn bytes(made: &Journal) -> (Vec<u8>, Vec<u8>) {
     )
 }
 
-/// What a journal shows: refusals with their places, and the sizes of replies.
-fn traits(made: &Journal) -> Vec<(u8, usize, usize)> {
-    let mut traits = Vec::new();
-    for outcome in &made.outcomes {
-        match outcome {
-            Outcome::Done => {}
-            Outcome::Refused(refusal) => {
-                traits.push((refusal.number(), refusal.place() as usize, 0));
-            }
-            Outcome::Replied(reply) => {
-                traits.push((0, reply.certain.len().min(20), reply.possible.len().min(20)));
-            }
+/// What a journal shows: refusals with their places, sizes of replies, records, conditions,
+/// operators and depths of piles.
+fn traits(made: &Journal, own: &Counts) -> BTreeSet<String> {
+    let outcomes = made.outcomes.iter().map(|outcome| match outcome {
+        Outcome::Done => "done".to_string(),
+        Outcome::Refused(refusal) => format!("{} at {}", refusal.number(), refusal.place()),
+        Outcome::Replied(reply) => {
+            let certain = reply.certain.len().min(20);
+            let possible = reply.possible.len().min(20);
+            format!("{certain} certain, {possible} possible")
         }
-    }
-    traits.sort();
-    traits.dedup();
-    traits
+    });
+    let names = own.records.keys().chain(own.conditions.keys());
+    let piles = own.piles.keys().map(|depth| format!("pile {depth}"));
+    let names = names.map(|name| name.to_string());
+    outcomes.chain(names).chain(piles).collect()
 }

@@ -37,6 +37,7 @@ impl Maker<'_> {
             for _ in 0..9 {
                 self.declare(table, Kind::Number);
             }
+            self.odd_declare();
         }
         if self.random.one_in(4) {
             self.odd_declare();
@@ -88,7 +89,14 @@ impl Maker<'_> {
     }
 
     fn odd_declare(&mut self) {
-        let table = self.random.below(TABLES) as u8;
+        let full: Vec<usize> = (0..TABLES)
+            .filter(|t| self.columns()[*t].len() == 8)
+            .collect();
+        let table = if full.is_empty() || self.random.percent(50) {
+            self.random.below(TABLES) as u8
+        } else {
+            self.random.pick(&full) as u8
+        };
         let kind = self.random.pick(&[1, 2]);
         let domain = self.random.from_to(0, 15) as u8;
         let call = match self.random.below(6) {
