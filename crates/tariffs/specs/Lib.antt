@@ -3,3 +3,4 @@ pub mod Hexadecimal
 pub mod Replies
 pub mod Rules
 pub mod Tariffs
+pub mod Worked

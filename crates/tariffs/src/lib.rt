@@ -6,6 +6,7 @@
 mod columns;
 mod digits;
 mod hexadecimal;
+mod loading;
 mod replies;
 mod rows;
 mod rules;
@@ -15,6 +16,7 @@ mod tests;
 pub use columns::{declare, number, prefix, reader_columns, tariff_columns};
 pub use digits::last_digit;
 pub use hexadecimal::from_hex;
+pub use loading::three_tariffs;
 pub use replies::{counts, written};
 pub use rows::{THREE_TARIFFS, store, tariff};
 pub use rules::filters;

@@ -1,28 +1,19 @@
 //! Queries over the three tariffs, and their certain and possible rows.
 
-use crate::show;
-use answer::answer;
-use anyhow::Context;
+use crate::replies;
 use book::Book;
 use cells::Cell;
-use query::{Term, check};
-use semantics::{Operator, Refusal};
+use lookup::ask;
+use policy::Filters;
+use query::Term;
+use semantics::Operator;
 use std::alloc::Global;
-use tariffs::{THREE_TARIFFS, filters, store, tariff_columns, written};
-use view::{Masked, View};
+use tariffs::{filters, three_tariffs, written};
+use view::Masked;
 use writing::{Query, WriteError};
 
 /// Holds for a tariff whose prefix covers 47110.
 const COVERS: Term<'static> = Term::ByPrefix(Operator::Covers, 0, b"47110");
-
-// Beside a like loop in `worked`, over tariffs of its own: in a library its contract would say the rows once more.
-/// The three tariffs.
-fn fill(book: &mut Book<'_>) -> Result<(), Refusal> {
-    for (digits, carrier, price) in THREE_TARIFFS {
-        store(book, 0, digits.as_bytes(), carrier, price)?;
-    }
-    Ok(())
-}
 
 // Here and below, and in `bench` of another table: a shared one would be no shorter than its contract.
 /// Some columns of all tariffs.
@@ -62,25 +53,13 @@ fn longest(heap: Global) -> Result<Query, WriteError> {
     Ok(query)
 }
 
-/// Answers a query over a view, and gives the bytes of the reply.
-fn answered<'r>(
-    book: &Book<'_>,
-    view: &View,
-    query: &[u8],
-    work: &mut [Masked],
-    reply: &'r mut [u8],
-) -> Result<&'r [u8], Refusal> {
-    let plan = check(query, book)?;
-    let size = answer(view, &plan, query, work, reply)?;
-    Ok(written(reply, size))
-}
-
-/// Who asks: a broker with the view that was drawn for it.
+/// Who asks: a broker, of a book under a policy.
 #[derive(Clone, Copy)]
 struct Asking<'a, 'm> {
     rt: &'a HostRuntime,
     book: &'a Book<'m>,
-    view: &'a View,
+    filters: &'a Filters,
+    broker: u16,
 }
 
 impl Asking<'_, '_> {
@@ -90,14 +69,15 @@ impl Asking<'_, '_> {
         let rt = self.rt;
         let mut work = vec![in rt.alloc(); Masked::ZERO; cells]?;
         let mut reply = [0; 4096];
-        match answered(
+        match ask(
             self.book,
-            self.view,
+            self.filters,
+            self.broker,
             query.bytes(),
             work.as_mut_slice(),
             &mut reply,
         ) {
-            Ok(bytes) => show::reply(rt, names, bytes),
+            Ok(size) => replies::show(rt, names, written(&reply, size)),
             Err(refusal) => {
                 println!(rt; "  {refusal}\n")?;
                 Ok(())
@@ -159,27 +139,25 @@ impl Asking<'_, '_> {
 
 /// The queries, over a book that holds the three tariffs.
 pub(crate) fn tariffs(rt: &HostRuntime) -> anyhow::Result<()> {
-    let filters = filters();
     let mut memory = [Cell::ZERO; 96];
-    let mut book = tariff_columns().open(&mut memory);
-    fill(&mut book).context("a tariff was refused")?;
+    let book = three_tariffs(&mut memory);
+    let filters = filters();
     println!(rt;
         "Queries over the first three tariffs. A certain row is in the answer whatever the variables"
     )?;
     println!(rt; "stand for; a possible row may be.\n")?;
-    let mut view = View::new();
-    view.draw(&book, &filters, 7);
     let seven = Asking {
         rt,
         book: &book,
-        view: &view,
+        filters: &filters,
+        broker: 7,
     };
     seven.seven()?;
-    view.draw(&book, &filters, 8);
     let eight = Asking {
         rt,
         book: &book,
-        view: &view,
+        filters: &filters,
+        broker: 8,
     };
     eight.eight()
 }

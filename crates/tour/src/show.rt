@@ -1,37 +1,54 @@
-//! Replies as a person reads them.
+//! Steps and books as a person reads them.
 
-use crate::read::{Record, Records, Row, Standing};
-use anyhow::{bail, ensure};
+use book::{Book, Walk};
+use semantics::Refusal;
+use std::fmt::Display;
+use view::View;
 
-/// A row of a reply as a line of the table, after the word for how it stands in the answer.
-fn line(rt: &HostRuntime, standing: Standing, row: Row<'_>) -> anyhow::Result<()> {
-    print!(rt; "  {standing:<8}")?;
-    for cell in row {
+/// A call and what it came to.
+pub(crate) fn step<T: Drop>(
+    rt: &HostRuntime,
+    call: &str,
+    done: Result<T, Refusal>,
+) -> anyhow::Result<()> {
+    match done {
+        Ok(_) => println!(rt; "  {call:<40} done")?,
+        Err(refusal) => println!(rt; "  {call:<40} {refusal}")?,
+    }
+    Ok(())
+}
+
+/// A row as a line of the table.
+fn line<T: Display>(rt: &HostRuntime, row: usize, cells: &[T]) -> anyhow::Result<()> {
+    print!(rt; "  {row:>3}")?;
+    for cell in cells {
         print!(rt; "  {cell:>8}")?;
     }
     println!(rt; "")?;
     Ok(())
 }
 
-/// The rows of a reply below the names of their columns.
-pub(crate) fn reply(rt: &HostRuntime, names: &str, bytes: &[u8]) -> anyhow::Result<()> {
-    let mut records = Records(bytes);
-    let Some(Record::Counts(certain, possible)) = records.next() else {
-        bail!("the reply does not begin with its counts");
-    };
-    println!(rt; "  {certain} certain, {possible} possible")?;
-    println!(rt; "          {names}")?;
-    let count = usize::from(certain) + usize::from(possible);
-    ensure!(
-        records.count() == count,
-        "the reply does not have the rows that it counts"
-    );
-    for record in records {
-        match record {
-            Record::Row(standing, row) => line(rt, standing, row)?,
-            Record::Counts(..) => bail!("the reply counts its rows twice"),
-        }
+/// Rows as lines of the table, by their numbers.
+#[tactic(auto, using(book::proofs::Walking::length_rows))]
+fn lines<T: Display>(rt: &HostRuntime, rows: Walk<'_, T>) -> anyhow::Result<()> {
+    for (row, cells) in rows.enumerate() {
+        line(rt, row, cells)?;
     }
     println!(rt; "")?;
     Ok(())
+}
+
+/// The rows of table 0.
+pub(crate) fn table(rt: &HostRuntime, title: &str, book: &Book<'_>) -> anyhow::Result<()> {
+    let count = book.row_count(0);
+    let limit = book.row_limit();
+    println!(rt; "\n{title}: {count} of at most {limit} rows")?;
+    println!(rt; "  row    prefix   carrier     price")?;
+    lines(rt, book.rows(0))
+}
+
+/// The rows of a table as they are seen.
+pub(crate) fn view(rt: &HostRuntime, head: &str, view: &View, table: usize) -> anyhow::Result<()> {
+    println!(rt; "{head}")?;
+    lines(rt, view.rows(table))
 }

@@ -1,13 +1,10 @@
 //! One query: answered or refused, in a workspace and a reply buffer that are not empty before.
 
 use crate::marks::Brokers;
-use answer::answer;
 use book::Book;
 use cells::Cell;
-use query::check;
 use semantics::Refusal;
-use view::{Masked, View};
-use workspace::clear;
+use view::Masked;
 
 /// What stands in a workspace cell beforehand: a number, a variable or a pseudonym of the book.
 fn litter(place: usize) -> Masked {
@@ -62,7 +59,7 @@ impl Lent<'_> {
             .all(|(place, byte)| *byte == pattern(place))
     }
 
-    /// Answers a query for a broker. Where the query is not well-formed, the workspace is cleared here.
+    /// Answers a query for a broker.
     pub(crate) fn ask(
         &mut self,
         book: &Book<'_>,
@@ -70,9 +67,6 @@ impl Lent<'_> {
         broker: u16,
         query: &[u8],
     ) -> Result<usize, Refusal> {
-        let plan = check(query, book).inspect_err(|_| clear(self.work))?;
-        let mut view = View::new();
-        view.draw(book, policy, broker);
-        answer(&view, &plan, query, self.work, self.reply)
+        lookup::ask(book, policy, broker, query, self.work, self.reply)
     }
 }

@@ -1,0 +1,10 @@
+//! Policies that are put together while a program runs.
+
+#![tactic(auto)]
+
+mod mark;
+mod parts;
+mod pile;
+
+pub use parts::Parts;
+pub use pile::{Pile, Stacked};
