@@ -2,10 +2,18 @@
 
 use crate::call::{Call, QUERY};
 use crate::kind::CallKind;
-use anyhow::Context;
+use anyhow::{Context, anyhow};
 use std::alloc::AllocError;
-use std::io::Read;
+use std::io::{self, ErrorKind, Read};
 use tariffs::written;
+
+/// What is said of an input that ends within a record, or that cannot be read.
+fn cut_off(error: io::Error) -> anyhow::Error {
+    match error.kind() {
+        ErrorKind::UnexpectedEof => anyhow!("a record is cut off"),
+        _ => anyhow::Error::from(error),
+    }
+}
 
 /// A reader of records, and the body of the last one.
 #[derive(Drop)]
@@ -33,7 +41,7 @@ impl<R: Read + Drop> Input<R> {
         }
         self.reader
             .read_exact(&mut head[count..])
-            .context("the head of a record is cut off")?;
+            .map_err(cut_off)?;
         Ok(Some(head))
     }
 
@@ -52,9 +60,7 @@ impl<R: Read + Drop> Input<R> {
         self.length = length;
         let body = self.body.as_mut_slice().get_mut(..length);
         let body = body.context("a body is too long")?;
-        self.reader
-            .read_exact(body)
-            .context("the body of a record is cut off")
+        self.reader.read_exact(body).map_err(cut_off)
     }
 
     /// The next call, none at the end of the input.
