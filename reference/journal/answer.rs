@@ -18,8 +18,8 @@ pub struct Answer {
 pub fn answer(relation: &Relation, view: &View, most: usize) -> Result<Answer, Refusal> {
     let (low, high) = match &relation.form {
         Form::Table(table) => {
-            let rows = || view[*table].iter().cloned();
-            (relation_of(rows(), most), relation_of(rows(), most))
+            let rows = relation_of(view[*table].iter().cloned(), most);
+            (rows.clone(), rows)
         }
         Form::Select(part, condition) => {
             let part = answer(part, view, most)?;

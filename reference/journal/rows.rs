@@ -5,18 +5,20 @@ use crate::cells::Cell;
 /// Whether some lawful valuation makes the two rows the same row. The two cells of each column
 /// are put into one group, and groups that share a cell are joined.
 pub fn compatible(left: &[Cell], right: &[Cell]) -> bool {
-    let pairs: Vec<[Cell; 2]> = left.iter().zip(right).map(|(l, r)| [*l, *r]).collect();
-    let mut groups: Vec<usize> = (0..pairs.len()).collect();
-    for one in 0..pairs.len() {
+    let width = left.len();
+    let pair = |column: usize| [left[column], right[column]];
+    // The group of each column, named by one of its columns. No row has more than 8.
+    let mut groups = [0, 1, 2, 3, 4, 5, 6, 7];
+    for one in 0..width {
         for other in 0..one {
-            if share_a_cell(&pairs[one], &pairs[other]) {
+            if share_a_cell(&pair(one), &pair(other)) {
                 join(&mut groups, one, other);
             }
         }
     }
-    for one in 0..pairs.len() {
+    for one in 0..width {
         for other in 0..=one {
-            if groups[one] == groups[other] && some_cells_clash(&pairs[one], &pairs[other]) {
+            if groups[one] == groups[other] && some_cells_clash(&pair(one), &pair(other)) {
                 return false;
             }
         }
