@@ -21,13 +21,36 @@ pub(crate) type Steps = Bounded<u8, 15>;
 #[derive(Clone, Copy)]
 pub(crate) enum Call {
     Begin,
-    Declare { table: usize, kind: u8, domain: u8 },
-    Open { cells: usize },
-    Store { table: usize, row: Row },
-    Strike { table: usize, row: usize },
-    Amend { table: usize, row: usize, column: usize, cell: Spelled },
-    Rule { filters: usize, rule: Rule },
-    Consent { register: usize, consent: Consent },
+    Declare {
+        table: usize,
+        kind: u8,
+        domain: u8,
+    },
+    Open {
+        cells: usize,
+    },
+    Store {
+        table: usize,
+        row: Row,
+    },
+    Strike {
+        table: usize,
+        row: usize,
+    },
+    Amend {
+        table: usize,
+        row: usize,
+        column: usize,
+        cell: Spelled,
+    },
+    Rule {
+        filters: usize,
+        rule: Rule,
+    },
+    Consent {
+        register: usize,
+        consent: Consent,
+    },
     Combine(Steps),
     Ask(Question),
 }

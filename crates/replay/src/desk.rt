@@ -48,11 +48,19 @@ impl Desk {
     pub(crate) fn policies(&mut self, call: Call) -> anyhow::Result<Option<Outcome>> {
         match call {
             Call::Rule { filters, rule } => {
-                let filters = self.parts.filters.get_mut(filters).context("no such filters")?;
+                let filters = self
+                    .parts
+                    .filters
+                    .get_mut(filters)
+                    .context("no such filters")?;
                 Ok(Some(Outcome::from(filters.add(rule))))
             }
             Call::Consent { register, consent } => {
-                let register = self.parts.registers.get_mut(register).context("no such register")?;
+                let register = self
+                    .parts
+                    .registers
+                    .get_mut(register)
+                    .context("no such register")?;
                 Ok(Some(Outcome::from(register.set(consent))))
             }
             Call::Combine(steps) => {

@@ -39,9 +39,7 @@ impl<R: Read + Drop> Input<R> {
         if count == 0 {
             return Ok(None);
         }
-        self.reader
-            .read_exact(&mut head[count..])
-            .map_err(cut_off)?;
+        self.reader.read_exact(&mut head[count..]).map_err(cut_off)?;
         Ok(Some(head))
     }
 

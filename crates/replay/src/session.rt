@@ -3,7 +3,7 @@
 use crate::call::Call;
 use crate::desk::{Desk, Lent};
 use crate::input::Input;
-use crate::outcome::Outcome;
+use crate::outcome::{Mode, Outcome};
 use crate::spelled::cells;
 use anyhow::bail;
 use book::{Book, Draft};
@@ -28,6 +28,7 @@ enum Drafted {
 /// Carries out the calls up to the one that opens the book.
 fn draft<R: Read + Drop>(
     rt: &HostRuntime,
+    mode: Mode,
     input: &mut Input<R>,
     desk: &mut Desk,
     draft: &mut Draft,
@@ -39,13 +40,17 @@ fn draft<R: Read + Drop>(
         let outcome = match call {
             Call::Begin => return Ok(Drafted::Over(Next::Begin)),
             Call::Open { cells } => return Ok(Drafted::Opened(cells)),
-            Call::Declare { table, kind, domain } => Outcome::from(draft.declare(table, kind, domain)),
+            Call::Declare {
+                table,
+                kind,
+                domain,
+            } => Outcome::from(draft.declare(table, kind, domain)),
             other => match desk.policies(other)? {
                 Some(outcome) => outcome,
                 None => bail!("a call on a book that is not open"),
             },
         };
-        outcome.write(rt, &[])?;
+        outcome.write(rt, mode, &[])?;
     }
     Ok(Drafted::Over(Next::End))
 }
@@ -53,11 +58,17 @@ fn draft<R: Read + Drop>(
 /// Carries out a call that alters the book; none where it is another.
 fn alter(book: &mut Book<'_>, call: Call) -> Option<Result<(), Refusal>> {
     match call {
-        Call::Store { table, row } => Some(cells(&row).and_then(|row| book.store(table, row.as_slice()))),
+        Call::Store { table, row } => Some(cells(&row).and_then(|row| book.store(
+            table,
+            row.as_slice(),
+        ))),
         Call::Strike { table, row } => Some(book.strike(table, row)),
-        Call::Amend { table, row, column, cell } => {
-            Some(cell.and_then(|cell| book.amend(table, row, column, cell)))
-        }
+        Call::Amend {
+            table,
+            row,
+            column,
+            cell,
+        } => { Some(cell.and_then(|cell| book.amend(table, row, column, cell))) }
         _ => None,
     }
 }
@@ -65,6 +76,7 @@ fn alter(book: &mut Book<'_>, call: Call) -> Option<Result<(), Refusal>> {
 /// Carries out the calls on an open book.
 fn serve<R: Read + Drop>(
     rt: &HostRuntime,
+    mode: Mode,
     input: &mut Input<R>,
     desk: &mut Desk,
     lent: &mut Lent,
@@ -76,7 +88,14 @@ fn serve<R: Read + Drop>(
         };
         let outcome = match call {
             Call::Begin => return Ok(Next::Begin),
-            Call::Ask(question) => desk.ask(lent, book, question, input.query())?,
+            Call::Ask(question) => {
+                let outcome = desk.ask(lent, book, question, input.query())?;
+                if mode == Mode::Times {
+                    let least = desk.time(rt, lent, book, question, input.query())?;
+                    outcome.show(rt, lent.reply.as_slice(), least)?;
+                }
+                outcome
+            }
             other => match alter(book, other) {
                 Some(answer) => Outcome::from(answer),
                 None => match desk.policies(other)? {
@@ -85,7 +104,7 @@ fn serve<R: Read + Drop>(
                 },
             },
         };
-        outcome.write(rt, lent.reply.as_slice())?;
+        outcome.write(rt, mode, lent.reply.as_slice())?;
     }
     Ok(Next::End)
 }
@@ -93,32 +112,33 @@ fn serve<R: Read + Drop>(
 /// Carries out the calls up to the next beginning, or to the end.
 fn part<R: Read + Drop>(
     rt: &HostRuntime,
+    mode: Mode,
     input: &mut Input<R>,
     lent: &mut Lent,
     memory: &mut [Cell],
 ) -> anyhow::Result<Next> {
     let mut desk = Desk::new(rt.alloc());
     let mut columns = Draft::new();
-    match draft(rt, input, &mut desk, &mut columns)? {
+    match draft(rt, mode, input, &mut desk, &mut columns)? {
         Drafted::Opened(cells) => {
             let cells = cells.min(memory.len());
             let mut book = columns.open(&mut memory[..cells]);
-            Outcome::Done.write(rt, &[])?;
-            serve(rt, input, &mut desk, lent, &mut book)
+            Outcome::Done.write(rt, mode, &[])?;
+            serve(rt, mode, input, &mut desk, lent, &mut book)
         }
         Drafted::Over(next) => Ok(next),
     }
 }
 
 /// Carries out the journal on standard input.
-pub(crate) fn journal(rt: &HostRuntime) -> anyhow::Result<()> {
+pub(crate) fn journal(rt: &HostRuntime, mode: Mode) -> anyhow::Result<()> {
     let mut memory = vec![in rt.alloc(); Cell::ZERO; 8192]?;
     let mut lent = Lent::new(rt.alloc())?;
     let reader = BufReader::new(rt.alloc(), rt.reader())?;
     let mut input = Input::new(rt, reader)?;
     for _ in 0..u64::MAX {
-        match part(rt, &mut input, &mut lent, memory.as_mut_slice())? {
-            Next::Begin => Outcome::Done.write(rt, &[])?,
+        match part(rt, mode, &mut input, &mut lent, memory.as_mut_slice())? {
+            Next::Begin => Outcome::Done.write(rt, mode, &[])?,
             Next::End => return Ok(()),
         }
     }
