@@ -25,7 +25,7 @@ pub struct Found {
     pub journals: u64,
 }
 
-/// Puts so many journals of the seed through the program, up to the first difference. While the
+/// Puts so many journals of its seed through the program, up to the first difference. While the
 /// program is at one batch, the next is made.
 pub fn search(
     program: &Path,

@@ -53,7 +53,7 @@ fn compare(count: u64, seed: u64, program: &Path) -> io::Result<bool> {
     Ok(true)
 }
 
-/// Talks to the program call by call, for the first few journals of the seed.
+/// Talks to the program call by call, for the first few journals of its seed.
 fn first_silence(seed: u64, program: &Path) -> io::Result<Option<usize>> {
     let made = (0..16).map(|number| journal(seed, number, &mut Counts::default()));
     let calls: Vec<(Vec<u8>, Vec<u8>)> = made

@@ -26,7 +26,7 @@ pub struct Journal {
     pub bad: bool,
 }
 
-/// The journal of this number among those of the seed.
+/// The journal of this number among those of its seed.
 pub fn journal(seed: u64, number: u64, counts: &mut Counts) -> Journal {
     let mut random = Random::new(seed, number);
     let pools = pools(&mut random);

@@ -29,7 +29,14 @@ impl Parts {
     }
 
     /// The mark of the filters of a number; hidden where there are none.
-    pub(crate) fn by_filters(&self, number: usize, broker: u16, table: usize, row: &[Cell], column: usize) -> Mark
+    pub(crate) fn by_filters(
+        &self,
+        number: usize,
+        broker: u16,
+        table: usize,
+        row: &[Cell],
+        column: usize,
+    ) -> Mark
         ensures { result ≡ filters_at self.now number broker table (map cell_value row.now) column }
     {
         match self.filters.get(number) {
@@ -39,7 +46,14 @@ impl Parts {
     }
 
     /// The mark of the register of a number; hidden where there is none.
-    pub(crate) fn by_register(&self, number: usize, broker: u16, table: usize, row: &[Cell], column: usize) -> Mark
+    pub(crate) fn by_register(
+        &self,
+        number: usize,
+        broker: u16,
+        table: usize,
+        row: &[Cell],
+        column: usize,
+    ) -> Mark
         ensures { result ≡ register_at self.now number broker table (map cell_value row.now) column }
     {
         match self.registers.get(number) {

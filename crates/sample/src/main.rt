@@ -25,14 +25,7 @@ fn run(rt: &HostRuntime) -> io::Result<()> {
     let mut work = [Masked::ZERO; 1920];
     let mut reply = [0; 4096];
     let mut out = io::writer(rt);
-    match ask(
-        &book,
-        &filters,
-        7,
-        query.as_slice(),
-        &mut work,
-        &mut reply,
-    ) {
+    match ask(&book, &filters, 7, query.as_slice(), &mut work, &mut reply) {
         Ok(size) => out.write_all(written(&reply, size)),
         Err(refusal) => out.write_all(&refusal_record(refusal)),
     }
