@@ -1,5 +1,5 @@
-//! `faults SOURCES FOLDER COUNT SEED`: plants one fault after another in a copy of the evaluator
-//! and says how many journals it takes to find each.
+//! `faults SOURCES FOLDER COUNT SEED [WORDS]`: plants one fault after another in a copy of the
+//! evaluator, of those whose name has the words, and says how many journals it takes to find each.
 
 use std::fs;
 use std::io;
@@ -567,20 +567,64 @@ const FAULTS: &[Fault] = &[
         "            return Err(Refusal::TableFull);",
         "            self.rows[table].push(cells.to_vec());\n            return Err(Refusal::TableFull);",
     ),
+    fault(
+        "a strike before open is refused",
+        "session.rs",
+        "(Call::Strike { table, row }, Stage::Book(book)) =>",
+        "(Call::Strike { .. }, Stage::Draft(_)) => Outcome::Refused(Refusal::NoRow),\n            (Call::Strike { table, row }, Stage::Book(book)) =>",
+    ),
+    fault(
+        "an ask before open is refused",
+        "session.rs",
+        "(Call::Ask(ask), Stage::Book(_)) =>",
+        "(Call::Ask(_), Stage::Draft(_)) => Outcome::Refused(Refusal::QueryLength),\n            (Call::Ask(ask), Stage::Book(_)) =>",
+    ),
+    fault(
+        "bytes after a strike are passed over",
+        "calls.rs",
+        "bytes.end(call).ok_or(Bad::WrongForm)",
+        "if kind == 0x34 { return Ok(call); }\n        bytes.end(call).ok_or(Bad::WrongForm)",
+    ),
+    fault(
+        "a store of 17 cells is let in",
+        "calls.rs",
+        "cells.len() > 16",
+        "cells.len() > 17",
+    ),
+    fault(
+        "sixteen steps are let in",
+        "calls.rs",
+        "steps.len() > 15",
+        "steps.len() > 17",
+    ),
+    fault(
+        "a fifteenth step is not let in",
+        "calls.rs",
+        "steps.len() > 15",
+        "steps.len() > 14",
+    ),
+    fault(
+        "a part of a record at the end is passed over",
+        "evaluate.rs",
+        "        0 => return Ok(None),",
+        "        0..4 => return Ok(None),",
+    ),
 ];
 
 fn main() -> ExitCode {
     let arguments: Vec<String> = std::env::args().collect();
-    let [_, sources, folder, count, seed] = &arguments[..] else {
-        eprintln!("faults SOURCES FOLDER COUNT SEED");
+    let [_, sources, folder, count, seed, words @ ..] = &arguments[..] else {
+        eprintln!("faults SOURCES FOLDER COUNT SEED [WORDS]");
         return ExitCode::from(2);
     };
     let (Ok(count), Ok(seed)) = (count.parse(), seed.parse()) else {
         eprintln!("COUNT and SEED are numbers");
         return ExitCode::from(2);
     };
+    let named = |fault: &&Fault| words.iter().all(|words| fault.name.contains(words));
+    let faults: Vec<&Fault> = FAULTS.iter().filter(named).collect();
     let mut missed = 0;
-    for fault in FAULTS {
+    for fault in &faults {
         let found = plant(fault, Path::new(sources), Path::new(folder)).and_then(|()| {
             search(
                 &Path::new(folder).join("evaluate"),
@@ -601,7 +645,7 @@ fn main() -> ExitCode {
             }
         }
     }
-    println!("{} faults, {missed} of them missed", FAULTS.len());
+    println!("{} faults, {missed} of them missed", faults.len());
     if missed == 0 {
         ExitCode::SUCCESS
     } else {

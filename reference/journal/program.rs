@@ -3,7 +3,7 @@
 use std::io::{self, Read, Write};
 use std::path::Path;
 use std::process::{Child, Command, Stdio};
-use std::sync::mpsc::{self, RecvTimeoutError};
+use std::sync::mpsc::{self, Receiver, RecvTimeoutError};
 use std::thread;
 use std::time::{Duration, Instant};
 
@@ -79,7 +79,8 @@ fn end(child: &mut Child, patience: Duration) -> io::Result<(Option<i32>, bool)>
 }
 
 /// Sends one call after another, each only when the outcome of the one before has come. Gives
-/// the number of the first call whose outcome did not come in time.
+/// the number of the first call whose outcome did not come in time. A wrong outcome ends it: that
+/// is for others to find.
 pub fn converse(
     program: &Path,
     calls: &[(Vec<u8>, Vec<u8>)],
@@ -95,27 +96,44 @@ pub fn converse(
     thread::spawn(move || {
         let mut buffer = vec![0; 1 << 16];
         while let Ok(count @ 1..) = output.read(&mut buffer) {
-            if sender.send(count).is_err() {
+            if sender.send(buffer[..count].to_vec()).is_err() {
                 break;
             }
         }
     });
     let mut silent = None;
     for (number, (call, outcome)) in calls.iter().enumerate() {
-        let mut missing = outcome.len();
-        let mut sent = to_child.write_all(call).is_ok();
-        while sent && missing > 0 {
-            match chunks.recv_timeout(patience) {
-                Ok(count) => missing = missing.saturating_sub(count),
-                Err(_) => sent = false,
+        match hear(&chunks, outcome, to_child.write_all(call).is_ok(), patience) {
+            Heard::Outcome => {}
+            Heard::Other => break,
+            Heard::Nothing => {
+                silent = Some(number);
+                break;
             }
-        }
-        if !sent {
-            silent = Some(number);
-            break;
         }
     }
     drop(to_child);
     end(&mut child, patience)?;
     Ok(silent)
+}
+
+enum Heard {
+    Outcome,
+    Other,
+    Nothing,
+}
+
+/// Waits for the outcome of a call that was sent.
+fn hear(chunks: &Receiver<Vec<u8>>, outcome: &[u8], sent: bool, patience: Duration) -> Heard {
+    let mut left = outcome;
+    while sent && !left.is_empty() {
+        match chunks.recv_timeout(patience) {
+            Ok(chunk) => match left.strip_prefix(&chunk[..]) {
+                Some(rest) => left = rest,
+                None => return Heard::Other,
+            },
+            Err(_) => return Heard::Nothing,
+        }
+    }
+    if sent { Heard::Outcome } else { Heard::Nothing }
 }
