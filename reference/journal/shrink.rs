@@ -5,6 +5,7 @@ use std::time::{Duration, Instant};
 use crate::ask::Ask;
 use crate::bytes::{Bytes, record};
 use crate::calls::{Call, Written};
+use crate::policy::{Rule, Test};
 
 type Records = Vec<Vec<u8>>;
 
@@ -148,6 +149,11 @@ fn smaller(bytes: &[u8]) -> Vec<Vec<u8>> {
             })
             .into_iter()
             .collect(),
+        Call::Rule { filter, rule } if rule.test != Test::Always => {
+            let test = Test::Always;
+            let rule = Rule { test, ..rule };
+            vec![Call::Rule { filter, rule }]
+        }
         Call::Combine(_) => {
             let steps: Records = bytes[4..].iter().map(|step| vec![*step]).collect();
             return smaller_trees(&steps, |step| if step[0] >= 0x20 { 2 } else { 0 })
