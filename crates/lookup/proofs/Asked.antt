@@ -1,5 +1,5 @@
 -- From the view and the plan of a query to what an ask comes to.
-use Rattle.std.proofs.Common.{◌≡◌, ℕ, suc, ◌<◌, true, List, [], ◌∷◌, length, slice_index_or, Fits, w8, Ok, Result, sym, refl, arith}
+use Rattle.std.proofs.Common.{◌≡◌, ℕ, suc, true, List, [], ◌∷◌, length, slice_index_or, Fits, w8, Ok, Result, sym, refl}
 use Rattle.std.proofs.Math.Facts.{Fits-lt-pow}
 use Rattle.std.proofs.lemmas.Bool.{and_from, lt-ltb}
 use Rattle.semantics.specs.declared.kind.Column.{Column}

@@ -3,5 +3,7 @@
 #![tactic(auto)]
 
 mod asking;
+#[cfg(test)]
+mod tests;
 
 pub use asking::ask;

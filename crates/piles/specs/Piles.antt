@@ -1,9 +1,7 @@
 -- What policies that are put together mean.
-use Rattle.std.specs.Prelude.{ℕ, List, Some, None, Option, slice_get}
+use Rattle.std.specs.Prelude.{ℕ, Some, None, Option, slice_get}
 use Rattle.semantics.specs.declared.mark.Mark.TheVariants.{Hidden}
 use Rattle.semantics.specs.Policies.{Meaning, both_mean, either_mean}
-use Rattle.policy.specs.declared.consents.Consents.{Consents}
-use Rattle.policy.specs.declared.filters.Filters as filters
 use Rattle.policy.specs.Consents.{consents_meaning}
 use Rattle.policy.specs.Filters.{filters_meaning}
 use Rattle.piles.specs.declared.parts.Parts.{Parts}

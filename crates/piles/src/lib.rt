@@ -5,6 +5,8 @@
 mod mark;
 mod parts;
 mod pile;
+#[cfg(test)]
+mod tests;
 
 pub use parts::Parts;
 pub use pile::{Pile, Stacked};

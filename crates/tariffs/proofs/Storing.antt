@@ -1,8 +1,7 @@
 -- The three tariffs are stored one after another.
-use Rattle.std.proofs.Common.{◌≡◌, ℕ, zero, suc, ◌+◌, ◌<◌, List, [], ◌∷◌, get_or, take, refl, arith}
+use Rattle.std.proofs.Common.{◌≡◌, ℕ, zero, suc, ◌+◌, ◌<◌, [], ◌∷◌, get_or, take, refl, arith}
 use Rattle.semantics.specs.Books.{Model, rows_of, stored}
 use Rattle.semantics.specs.Outcomes.{done}
-use Rattle.semantics.specs.Values.{Value}
 use Rattle.laws.specs.Sample.{tariffs}
 
 -- the book of the first of them

@@ -1,5 +1,4 @@
 use Rattle.std.proofs.Common.{length}
-use Rattle.semantics.specs.Policies.{Meaning}
 use Rattle.semantics.specs.Views.{view}
 use Rattle.laws.proofs.Promises.{laws_hold}
 use Rattle.book.specs.Books.{book_model}

@@ -1,0 +1,79 @@
+use crate::ask;
+use book::{Book, Draft};
+use cells::Cell;
+use policy::Filters;
+use semantics::{Refusal, Rule, Sign, Test};
+use std::test::Fail;
+use view::Masked;
+
+/// The query for table 0.
+const TABLE: [u8; 5] = [1, 0, 1, 0, 0];
+
+/// Broker 7 may see column 0 of table 0.
+fn policy() -> Result<Filters, Refusal> {
+    let mut filters = Filters::new();
+    filters.add(Rule {
+        broker: 7,
+        table: 0,
+        column: 0,
+        sign: Sign::Allow,
+        test: Test::Always,
+    })?;
+    Ok(filters)
+}
+
+/// Table 0 has one number.
+fn book(memory: &mut [Cell; 32]) -> Book<'_> {
+    let mut draft = Draft::new();
+    let _ = draft.declare(0, 1, 0);
+    let mut book = draft.open(memory);
+    let _ = book.store(0, &[Cell::Number(3100)]);
+    book
+}
+
+/// Whether a workspace has been cleared.
+fn is_clear(work: &[Masked]) -> bool {
+    work.iter().all(|cell| *cell == Masked::ZERO)
+}
+
+#[test]
+fn a_shown_cell_and_a_hidden_one(rt: HostRuntime) -> Result<(), Fail> {
+    let mut memory = [Cell::ZERO; 32];
+    let book = book(&mut memory);
+    let policy = policy()?;
+    let mut work = [Masked::ZERO; 240];
+    let mut reply = [9; 18];
+    let size = ask(&book, &policy, 7, &TABLE, &mut work, &mut reply)?;
+    assert_eq!(rt; size, 17);
+    let shown = [4, 0, 32, 0, 1, 0, 0, 0, 5, 0, 33, 0, 1, 28, 12, 0, 0, 9];
+    assert!(rt; reply == shown);
+    let size = ask(&book, &policy, 8, &TABLE, &mut work, &mut reply)?;
+    assert_eq!(rt; size, 16);
+    let hidden = [4, 0, 32, 0, 1, 0, 0, 0, 4, 0, 33, 0, 3, 0, 0, 0];
+    assert!(rt; &reply[..16] == hidden.as_slice());
+    assert!(rt; is_clear(&work));
+    Ok(())
+}
+
+#[test]
+fn a_refused_ask_leaves_no_trace(rt: HostRuntime) -> Result<(), Fail> {
+    let mut memory = [Cell::ZERO; 32];
+    let book = book(&mut memory);
+    let policy = policy()?;
+    let litter = Masked::Value(Cell::Number(5));
+    let mut work = [litter; 240];
+    let mut reply = [9; 16];
+    let broken = ask(&book, &policy, 7, &TABLE[..4], &mut work, &mut reply);
+    assert!(rt; broken == Err(Refusal::BrokenRecord(0)));
+    assert!(rt; is_clear(&work));
+    work.fill(litter);
+    let short = ask(&book, &policy, 7, &TABLE, &mut work, &mut reply);
+    assert!(rt; short == Err(Refusal::ReplyTooLong(1)));
+    assert!(rt; is_clear(&work));
+    work.fill(litter);
+    let full = ask(&book, &policy, 7, &TABLE, &mut work[..239], &mut reply);
+    assert!(rt; full == Err(Refusal::TooManyRows(0)));
+    assert!(rt; is_clear(&work[..239]));
+    assert!(rt; reply == [9; 16]);
+    Ok(())
+}
