@@ -30,7 +30,7 @@ pub struct Journal {
 pub fn journal(seed: u64, number: u64, counts: &mut Counts) -> Journal {
     let mut random = Random::new(seed, number);
     let pools = pools(&mut random);
-    let bad = random.one_in(35);
+    let bad = random.one_in(25);
     let mut maker = Maker {
         random,
         pools,

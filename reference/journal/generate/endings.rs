@@ -127,7 +127,8 @@ impl Maker<'_> {
         match self.random.below(30) {
             0 => record(0x38, &[]),
             1 => record(0x38, &[0x14]),
-            2 => record(0x38, &[&[0; 9][..], &[0x20; 8][..]].concat()),
+            // Steps that are right but for their number.
+            2 | 9 | 10 => record(0x38, &[&[0; 9][..], &[0x20; 8][..]].concat()),
             3 => record(0x33, &[&[0][..], &[2, 0].repeat(17)[..]].concat()),
             4 => record(0x38, &[0, 0, 0x22]),
             5 => record(0x31, &[0, 1]),
