@@ -1,6 +1,7 @@
 -- What the columns of two rows alone tell.
 use Rattle.std.proofs.Common.{◌≡◌, ℕ, suc, ◌<◌, ◌≤◌, Bool, true, false, ◌&&◌, ◌||◌, List, [], ◌∷◌, map, length, get_or, sym, refl, ap, ◌∙◌, subst, ap₂, arith}
 use mathlib.Core.List.Memᴰ
+use mathlib.Core.List.{Memᴰ}
 use Rattle.std.specs.List.{list_all, list_any, zip}
 use Rattle.std.proofs.lemmas.List.{length-map, get_or-map}
 use Rattle.std.proofs.lemmas.Bool.{and_parts, not-false, both_ways, false≢true}
@@ -33,6 +34,12 @@ values_same (pseudonym d n) b p q e = absurd (false≢true p)
 or_parts : (b c : Bool) → (b || c) ≡ false → (b ≡ false) × (c ≡ false)
 or_parts true c e = absurd (false≢true (sym e))
 or_parts false c e = (refl, e)
+
+-- no column is one whose cells differ
+pub none_apart : (columns : List (Masked × Masked)) → list_any apart columns ≡ false → (p : Masked × Masked) → Memᴰ p columns → differ (masked_of p.0) (masked_of p.1) ≡ false
+none_apart [] e p m = elim m [ ]
+none_apart (x ∷ columns) e p (Memᴰ.head h) = ap apart h ∙ (or_parts (apart x) (list_any apart columns) e).0
+none_apart (x ∷ columns) e p (Memᴰ.tail m) = none_apart columns (or_parts (apart x) (list_any apart columns) e).1 p m
 
 -- rows of values of which no column differs
 same_values : (a b : List Masked) → length a ≡ length b → list_any apart (zip a b) ≡ false → list_all valued (zip a b) ≡ true → map masked_of a ≡ map masked_of b

@@ -1,4 +1,4 @@
 pub mod Uniting
-pub mod Joining
+pub mod Pairing
 pub mod Agreeing
 pub mod Columnwise

@@ -1,5 +1,5 @@
 -- Two rows of a view compared: column by column, and by the groups of their cells.
-use Rattle.std.specs.Prelude.{◌≡◌, ◌≤◌, Bool, true, false, not, ◌&&◌, ◌↔◌, List, [], ◌∷◌, length}
+use Rattle.std.specs.Prelude.{◌≡◌, ◌≤◌, Bool, true, false, not, ◌&&◌, ◌||◌, ◌↔◌, List, [], ◌∷◌, length}
 use Rattle.std.specs.List.{list_all}
 use Rattle.semantics.specs.declared.kind.Column.{Column}
 use Rattle.semantics.specs.Compatible.{differ, united, RowsOver, cells_of, few_cells, proper_cell}
@@ -10,7 +10,7 @@ use Rattle.semantics.specs.Wider.{same_masked}
 use Rattle.laws.specs.Compatible.{Joinable}
 use Rattle.view.specs.declared.masked.Masked.{Masked}
 use Rattle.view.specs.Views.{masked_of}
-use Rattle.rows.specs.declared.members.Member.{Member}
+use Rattle.rows.specs.declared.pairs.Pair.{Pair}
 
 -- Is the cell a value?
 abbrev pub is_value : semantics.Masked → Bool
@@ -23,25 +23,30 @@ abbrev pub group_after : List (Masked × Masked) → semantics.Masked → semant
 group_after [] group = group
 group_after (p ∷ pairs) group = group_after pairs (united (masked_of p.0) (masked_of p.1) group)
 
--- A cell, and what its group goes by.
+-- The two cells of a column, and what the one group that both are in goes by.
 pub record Grouped : Type 0 where
-  pub cell : semantics.Masked
+  pub left : semantics.Masked
+  pub right : semantics.Masked
   pub group : semantics.Masked
 
-abbrev pub with_group : (semantics.Masked → semantics.Masked) → semantics.Masked → Grouped
-with_group group a = record { cell = a; group = group a }
+abbrev pub with_group : (semantics.Masked → semantics.Masked) → Masked × Masked → Grouped
+with_group group p = record { left = masked_of p.0; right = masked_of p.1; group = group (masked_of p.0) }
 
-abbrev pub cell_and_group : Member → Grouped
-cell_and_group m = record { cell = masked_of m.cell; group = masked_of m.group }
+abbrev pub cells_and_group : Pair → Grouped
+cells_and_group p = record { left = masked_of p.left; right = masked_of p.right; group = masked_of p.group }
 
--- Do the two cells not differ, or are they in two groups?
+-- Does a cell of one differ from a cell of the other?
+abbrev pub clash : Grouped → Grouped → Bool
+clash a b = differ a.left b.left || differ a.left b.right || differ a.right b.left || differ a.right b.right
+
+-- Are the two in two groups, or does no cell of one differ from a cell of the other?
 abbrev pub agree : Grouped → Grouped → Bool
-agree a b = not (differ a.cell b.cell && same_masked a.group b.group)
+agree a b = not (same_masked a.group b.group && clash a b)
 
--- Do no two cells of one group differ?
+-- Does each agree with those after it?
 abbrev pub all_agree : List Grouped → Bool
 all_agree [] = true
-all_agree (a ∷ cells) = list_all (agree a) cells && all_agree cells
+all_agree (a ∷ pairs) = list_all (agree a) pairs && all_agree pairs
 
 -- The answer is true exactly when some lawful valuation makes the two rows the same row, in any view
 -- over whose tables they are rows of at most 8 cells.

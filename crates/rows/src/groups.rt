@@ -1,19 +1,21 @@
-ghost use Rattle.std.specs.Prelude.{◌≡◌, ◌≤◌, map, length};
-ghost use Rattle.semantics.specs.Compatible.{compatible};
+ghost use Rattle.std.specs.Prelude.{◌≡◌, ◌≤◌, false, map, length};
+ghost use Rattle.std.specs.List.{list_any, zip};
+ghost use Rattle.semantics.specs.Compatible.{differ, compatible};
 ghost use Rattle.view.specs.Views.{masked_of};
 ghost use Rattle.rows.specs.Rows.{CompatibleIff};
 
 use crate::columns::{all_values, some_differ};
-use crate::members::{all_agree, members};
+use crate::pairs::{all_agree, pairs};
 use view::Masked;
 
 // A clause and no type for the 8, here and below: `compatible` is public and takes slices of any length.
-/// Whether two rows of one length, at most 8, are compatible, by the groups of their cells.
+/// Whether two rows of one length, at most 8, are compatible, by the groups of their cells, where
+/// the two cells of no column differ.
 fn groups_agree(a: &[Masked], b: &[Masked]) -> bool
-    requires { (length a.now ≤ 8) × (length a.now ≡ length b.now) }
+    requires { (length a.now ≤ 8) × (length a.now ≡ length b.now) × (list_any (λ p. differ (masked_of p.0) (masked_of p.1)) (zip a.now b.now) ≡ false) }
     ensures { result ≡ compatible (map masked_of a.now) (map masked_of b.now) }
 {
-    all_agree(members(a, b).as_slice())
+    all_agree(pairs(a, b).as_slice())
 }
 
 /// Whether two rows of one length are compatible. Of rows longer than 8 that do not hold values alone

@@ -4,7 +4,7 @@
 
 mod columns;
 mod groups;
-mod members;
+mod pairs;
 mod same;
 #[cfg(test)]
 mod tests;

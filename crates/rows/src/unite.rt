@@ -18,10 +18,10 @@ pub(crate) struct Groups {
 /// What a group goes by after a union.
 #[tactic(auto, using(view::proofs::Same::equal_masked))]
 #[inline(always)]
-fn gone_by(group: Masked, union: &(Masked, Masked)) -> Masked
-    ensures { masked_of result ≡ united (masked_of union.now.0) (masked_of union.now.1) (masked_of group) }
+fn gone_by<'a>(group: &'a Masked, union: &'a (Masked, Masked)) -> &'a Masked
+    ensures { masked_of result.now ≡ united (masked_of union.now.0) (masked_of union.now.1) (masked_of group.now) }
 {
-    if group == union.0 { union.1 } else { group }
+    if *group == union.0 { &union.1 } else { group }
 }
 
 impl Groups {
@@ -36,22 +36,23 @@ impl Groups {
 
     /// What the group of a cell goes by.
     #[inline(always)]
-    pub(crate) fn of(&self, cell: Masked) -> Masked
-        ensures { masked_of result ≡ group_after (items self.now.united) (masked_of cell) }
+    pub(crate) fn of<'a>(&'a self, cell: &'a Masked) -> &'a Masked
+        ensures { masked_of result.now ≡ group_after (items self.now.united) (masked_of cell.now) }
     {
         self.united.as_slice().iter().fold(cell, gone_by)
     }
 
     /// Puts two cells into one group.
     #[tactic(auto, using(crate::proofs::Uniting::united_by))]
-    fn unite(&mut self, x: Masked, y: Masked)
+    fn unite(&mut self, x: &Masked, y: &Masked)
         requires { length (items self.old.united) < 8 }
-        ensures one { (c : semantics.Masked) → group_after (items self.new.united) c ≡ united (group_after (items self.old.united) (masked_of x)) (group_after (items self.old.united) (masked_of y)) (group_after (items self.old.united) c) }
+        ensures one { (c : semantics.Masked) → group_after (items self.new.united) c ≡ united (group_after (items self.old.united) (masked_of x.now)) (group_after (items self.old.united) (masked_of y.now)) (group_after (items self.old.united) c) }
         ensures few { length (items self.new.united) ≤ length (items self.old.united) + 1 }
     {
         let (first, second) = (self.of(x), self.of(y));
         if first != second {
-            self.united.push((first, second)).unwrap();
+            let union = (*first, *second);
+            self.united.push(union).unwrap();
         }
     }
 
@@ -62,7 +63,7 @@ impl Groups {
     {
         let mut groups = Groups::apart();
         for (x, y) in a.iter().zip(b) {
-            groups.unite(*x, *y);
+            groups.unite(x, y);
         }
         groups
     }
