@@ -72,6 +72,15 @@ module _ (columns : List (List Column)) (v : View) (here : Slot) {limit first : 
       makes_as (width_in v t) (λ cells. without_repeats (get_or (view_tables v) t [])) (table t) r is
       (wide t ∙ sym (length-map (get_or columns t []) (λ column. column.kind))) (answer-table (view_tables v) bound t)
 
+  -- a table's two answers are one
+  pub again-made : (t : ℕ) (from b : Block) → node ≡ table t → Stands columns v (other bound) node mid from → Placed here.limit here.rows.first from.width here.work.now new b
+      → block_rows new b ≡ block_rows here.work.now from → Answered limit first columns v bound node mid new (Some b)
+  again-made t from b is a p h =
+      makes_as from.width (λ cells. block_rows cells from) (table t) (Some b) is
+      (a.wide ∙ ap (λ x. length (kinds_of columns x)) is)
+      (a.holds ∙ ap (answer_of (other bound) (view_tables v)) is ∙ sym (answer-table (view_tables v) (other bound) t) ∙ answer-table (view_tables v) bound t)
+      (p, h)
+
   module _ {q : Tree} {from : Block} (a : Stands columns v bound q mid from) where
     pub select-made : (c : Condition) (b : Block) → node ≡ select c q → Placed here.limit here.rows.first from.width here.work.now new b
         → block_rows new b ≡ filter (λ x. keeps bound (truth c x)) (block_rows here.work.now from) → Answered limit first columns v bound node mid new (Some b)

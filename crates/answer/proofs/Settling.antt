@@ -111,3 +111,8 @@ found_within {limit} {memo} {s} sound k e low other = subst (InSlot limit (k * l
     go : (o : Option Block) → get_or memo k None ≡ o → InSlot limit (k * limit) o
     go None h = tt
     go (Some b) h = (sound.begins k b h, sound.few k b h)
+
+-- what is read at a number of the memo has been found
+pub found_there : {limit : ℕ} {memo : List (Option Block)} {s : ℕ} → Sound limit memo → (k : ℕ) → s ≡ k → k < 30 → (other : Option Block) (b : Block)
+    → get_or memo s other ≡ Some b → get_or memo k None ≡ Some b
+found_there {limit} {memo} {s} sound k e low other b is = get_or_default memo k None other (omega (arith, sound.thirty)) ∙ ap (λ n. get_or memo n other) (sym e) ∙ is

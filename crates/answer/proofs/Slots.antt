@@ -4,7 +4,7 @@ use Rattle.std.proofs.lemmas.Bool.{cases_lt}
 use Rattle.workspace.specs.declared.block.Block.{Block}
 use Rattle.answer.specs.declared.bound.Bound.{Bound}
 use Rattle.answer.specs.declared.bound.Bound.TheVariants.{Low, High}
-use Rattle.answer.specs.Bounds.{slot}
+use Rattle.answer.specs.Bounds.{other, slot}
 use Rattle.answer.specs.declared.memo.Memo.{Memo}
 use Rattle.answer.specs.declared.slot.Slot.{Slot}
 use Rattle.answer.specs.Places.{Apart}
@@ -46,16 +46,31 @@ slots_apart limit k s x apart begins few =
     (λ (h : s ≤ k). inr (omega (arith, slot-end limit s k (omega arith))))
     (cases_lt k s)
 
--- The block of another record's slot stands beside the slot that is turned to.
-pub turned_beside : (memo : Memo) (here : Slot) (bound bound' : Bound) (i j : ℕ) {limit : ℕ} {b : Block}
-    → here.limit ≡ memo.slot.limit → here.rows.first ≡ slot bound i * memo.slot.limit → here.work.now ≡ memo.slot.work.now → j < 15 → (j ≡ i → ⊥)
+-- The block of another slot stands beside the slot that is turned to.
+pub slot_beside : (memo : Memo) (here : Slot) (bound bound' : Bound) (i j : ℕ) {limit : ℕ} {b : Block}
+    → here.limit ≡ memo.slot.limit → here.rows.first ≡ slot bound i * memo.slot.limit → here.work.now ≡ memo.slot.work.now → j < 15 → (slot bound' j ≡ slot bound i → ⊥)
     → memo.slot.limit ≡ limit → (b.first ≡ slot bound' j * limit) × (b.count ≤ limit) → Beside here b
-turned_beside memo here bound bound' i j {limit} {b} l f w low other e at =
+slot_beside memo here bound bound' i j {limit} {b} l f w low other e at =
     let begins : b.first ≡ slot bound' j * memo.slot.limit = at.0 ∙ ap (λ n. slot bound' j * n) (sym e) in
     let few : b.count ≤ memo.slot.limit = omega (arith, at.1) in
     record {
       apart = subst (λ n. Apart n here.limit b) (sym f) (subst (λ n. Apart (slot bound i * memo.slot.limit) n b) (sym l)
-          (slots_apart memo.slot.limit (slot bound' j) (slot bound i) b (slots-other bound' bound j i other) begins few));
+          (slots_apart memo.slot.limit (slot bound' j) (slot bound i) b other begins few));
       within = let c = ap length w in omega (arith, block_room memo.slot.limit (slot bound' j) memo.few (slot-low bound' j low) (length memo.slot.work.now) b memo.room begins few);
       few = omega arith;
     }
+
+-- So does that of another record's slot, and of the record's other answer.
+pub turned_beside : (memo : Memo) (here : Slot) (bound bound' : Bound) (i j : ℕ) {limit : ℕ} {b : Block}
+    → here.limit ≡ memo.slot.limit → here.rows.first ≡ slot bound i * memo.slot.limit → here.work.now ≡ memo.slot.work.now → j < 15 → (j ≡ i → ⊥)
+    → memo.slot.limit ≡ limit → (b.first ≡ slot bound' j * limit) × (b.count ≤ limit) → Beside here b
+turned_beside memo here bound bound' i j l f w low apart = slot_beside memo here bound bound' i j l f w low (slots-other bound' bound j i apart)
+
+answers-apart : (bound : Bound) (i : ℕ) → slot (other bound) i ≡ slot bound i → ⊥
+answers-apart Low i e = omega arith
+answers-apart High i e = omega arith
+
+pub other_beside : (memo : Memo) (here : Slot) (bound : Bound) (i : ℕ) {limit : ℕ} {b : Block}
+    → here.limit ≡ memo.slot.limit → here.rows.first ≡ slot bound i * memo.slot.limit → here.work.now ≡ memo.slot.work.now → i < 15
+    → memo.slot.limit ≡ limit → (b.first ≡ slot (other bound) i * limit) × (b.count ≤ limit) → Beside here b
+other_beside memo here bound i l f w low = slot_beside memo here bound (other bound) i i l f w low (answers-apart bound i)

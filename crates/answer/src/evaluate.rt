@@ -26,7 +26,11 @@ impl Task<'_, '_, '_> {
         match operation {
             Operation::Table(table) => {
                 memo.turn(bound, number);
-                memo.slot.table(self.view, usize::from(table))
+                // a table's two answers are one, and repeats are looked for once
+                match memo.found[bound.other().slot(number)] {
+                    Some(other) => Some(memo.slot.again(other)),
+                    None => memo.slot.table(self.view, usize::from(table)),
+                }
             }
             Operation::Select(part, condition) => {
                 let from = self.evaluate(bound, memo, part)?;

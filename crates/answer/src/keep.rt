@@ -39,4 +39,14 @@ impl Slot<'_> {
         }
         self.rows
     }
+
+    /// The rows of a block once more.
+    pub(crate) fn again(&mut self, from: Block) -> Block
+        requires beside { Beside self.old from }
+        ensures same { Same self.old self.new }
+        ensures placed { Placed self.old.limit self.old.rows.first from.width self.old.work.now self.new.work.now result }
+        ensures holds { block_rows self.new.work.now result ≡ block_rows self.old.work.now from }
+    {
+        self.keep(from, |_, _| true)
+    }
 }

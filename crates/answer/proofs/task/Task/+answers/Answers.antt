@@ -1,13 +1,14 @@
-use Rattle.std.proofs.Common.{◌≡◌, ◌*◌, ◌<◌, length, Some, sym, ap, ◌∙◌, subst, arith}
+use Rattle.std.proofs.Common.{◌≡◌, ◌*◌, ◌<◌, length, get_or, Some, None, sym, refl, ap, ◌∙◌, subst, arith}
 use Rattle.semantics.specs.declared.refusal.Refusal.TheVariants.{WrongForm}
 use Rattle.semantics.specs.Queries.{table, nodes}
-use Rattle.answer.specs.Bounds.{slot}
+use Rattle.answer.specs.Bounds.{other, slot}
 use Rattle.answer.specs.Memos.{Sound}
+use Rattle.answer.specs.Places.{InSlot}
 use Rattle.query.specs.Operations.{relation}
-use Rattle.answer.proofs.Making.{stands, still_stands, table-made, select-made, project-made, product-made, union-made, difference-made}
+use Rattle.answer.proofs.Making.{stands, still_stands, table-made, again-made, select-made, project-made, product-made, union-made, difference-made}
 use Rattle.answer.proofs.Relations.{relation-proper}
-use Rattle.answer.proofs.Settling.{sound_more, brought, settled, found_within}
-use Rattle.answer.proofs.Slots.{slot-low, turned_beside}
+use Rattle.answer.proofs.Settling.{sound_more, brought, settled, found_within, found_there}
+use Rattle.answer.proofs.Slots.{slot-low, turned_beside, other_beside}
 use Rattle.answer.proofs.task.Task.+answers.Goals as goal
 
 pub evaluate-returns-then-is_some-clause-within : goal.evaluate-returns-then-is_some-clause-within
@@ -31,12 +32,37 @@ evaluate-returns-clause-found t c columns q over h held =
 pub make-returns-in_err-operation-clause-made : goal.make-returns-in_err-operation-clause-made
 make-returns-in_err-operation-clause-made t c columns q over h held = absurd (c.in_err-operation.ensures.reads columns (nodes q) over.planned h)
 
-pub make-returns-in-Table-clause-made : goal.make-returns-in-Table-clause-made
-make-returns-in-Table-clause-made t c columns q over h held =
+pub make-returns-in-None-clause-made : goal.make-returns-in-None-clause-made
+make-returns-in-None-clause-made t c columns q over h held =
     let i = c.args.number in
     let so = rw c.in-Table.is at (c.in_ok-operation.ensures.reads columns (nodes q) over.planned h) in
     brought c.args.memo.now.slot.limit c.args.bound i c.table.new.self.work.now c.args.memo.now.found over h c.turn.ensures.found held (λ k there. there) c.table.result
     (table-made columns c.args.self.view.now c.turn.new.self.slot over.wide c.turn.ensures.limit c.turn.ensures.first c.turn.ensures.work c.args.bound (relation (nodes q) i) c.table.new.self.work.now c.from.result c.table.result (so ∙ ap table (sym c.from.ensures)) c.table.ensures.makes)
+
+pub make-again-requires : goal.make-again-requires
+make-again-requires t c =
+    let m = c.turn.new.self in
+    let b = c.args.bound in
+    let i = c.args.number in
+    let k = slot (other b) i in
+    let e : c.slot.result ≡ k = c.slot.ensures ∙ ap (λ x. slot x i) c.other.ensures in
+    record {
+      beside = other_beside m m.slot b i refl (c.turn.ensures.first ∙ ap (λ n. slot b i * n) (sym c.turn.ensures.limit)) refl c.requires.lower refl
+          (subst (InSlot m.slot.limit (k * m.slot.limit)) c.in-Some.is (found_within m.sound k e (slot-low (other b) i c.requires.lower) _));
+    }
+
+pub make-returns-in-Some-clause-made : goal.make-returns-in-Some-clause-made
+make-returns-in-Some-clause-made t c columns q over h held =
+    let m = c.turn.new.self in
+    let b = c.args.bound in
+    let i = c.args.number in
+    let k = slot (other b) i in
+    let e : c.slot.result ≡ k = c.slot.ensures ∙ ap (λ x. slot x i) c.other.ensures in
+    let there = ap (λ l. get_or l k None) (sym c.turn.ensures.found) ∙ found_there m.sound k e (slot-low (other b) i c.requires.lower) _ c.in-Some.other c.in-Some.is in
+    brought c.args.memo.now.slot.limit b i c.again.new.self.work.now c.args.memo.now.found over h c.turn.ensures.found held (λ k there. there) (Some c.again.result)
+    (again-made columns c.args.self.view.now m.slot over.wide c.turn.ensures.limit c.turn.ensures.first c.turn.ensures.work b (relation (nodes q) i) c.again.new.self.work.now
+    c.in-Table.table c.in-Some.other c.again.result (rw c.in-Table.is at (c.in_ok-operation.ensures.reads columns (nodes q) over.planned h))
+    (record { wide = held.wide (other b) i c.in-Some.other h there; holds = held.holds (other b) i c.in-Some.other h there }) c.again.ensures.placed c.again.ensures.holds)
 
 pub make-select-requires : goal.make-select-requires
 make-select-requires t c =
@@ -157,7 +183,7 @@ make-difference-requires t c =
     record {
       beside = (
         turned_beside m s c.args.bound c.args.bound i j c.turn-in-Difference.ensures.limit c.turn-in-Difference.ensures.first c.turn-in-Difference.ensures.work (omega (arith, c.requires.lower)) (λ (e : j ≡ i). omega arith) (c.evaluate-in-Difference-2.ensures.limit ∙ c.evaluate-in-Difference.ensures.limit) c.in_ok-left-in-Difference.ensures.within,
-        turned_beside m s c.args.bound c.other.result i k c.turn-in-Difference.ensures.limit c.turn-in-Difference.ensures.first c.turn-in-Difference.ensures.work (omega (arith, c.requires.lower)) (λ (e : k ≡ i). omega arith) c.evaluate-in-Difference-2.ensures.limit c.in_ok-right-in-Difference.ensures.within,
+        turned_beside m s c.args.bound c.other-in-Difference.result i k c.turn-in-Difference.ensures.limit c.turn-in-Difference.ensures.first c.turn-in-Difference.ensures.work (omega (arith, c.requires.lower)) (λ (e : k ≡ i). omega arith) c.evaluate-in-Difference-2.ensures.limit c.in_ok-right-in-Difference.ensures.within,
       );
     }
 
@@ -175,4 +201,4 @@ make-returns-in_ok-right-in-Difference-clause-made t c columns q over h held =
     let f = c.turn-in-Difference.ensures.first ∙ ap (λ n. slot c.args.bound i * n) e in
     brought c.args.memo.now.slot.limit c.args.bound i c.difference.new.self.work.now c.args.memo.now.found over h c.turn-in-Difference.ensures.found two.held (λ k there. two.grown k (one.grown k there)) (Some c.difference.result)
     (difference-made columns c.args.self.view.now c.turn-in-Difference.new.self.slot over.wide l f c.turn-in-Difference.ensures.work c.args.bound (relation (nodes q) i) c.difference.new.self.work.now
-    (still_stands gl c.evaluate-in-Difference-2.ensures.limit c.evaluate-in-Difference.new.memo.sound c.evaluate-in-Difference-2.new.memo.sound one two) (stands gr two) c.difference.result c.other.ensures so c.difference.ensures.placed c.difference.ensures.holds)
+    (still_stands gl c.evaluate-in-Difference-2.ensures.limit c.evaluate-in-Difference.new.memo.sound c.evaluate-in-Difference-2.new.memo.sound one two) (stands gr two) c.difference.result c.other-in-Difference.ensures so c.difference.ensures.placed c.difference.ensures.holds)
