@@ -1,5 +1,6 @@
 ghost use Rattle.std.specs.Prelude.{◌≡◌};
-ghost use Rattle.policy.specs.Filters.{rules_of};
+ghost use Rattle.laws.specs.Sample.{filters};
+ghost use Rattle.policy.specs.Filters.{rules_of, filters_meaning};
 ghost use Rattle.tariffs.specs.Rules.{broker_rule, broker_rules};
 
 use policy::Filters;
@@ -18,10 +19,12 @@ fn rule(column: usize, sign: Sign, test: Test) -> Rule
     }
 }
 
-/// Broker 7 may see all three columns of table 0, but not the prefixes of carrier 2.
+/// Broker 7 may see all three columns of table 0, but not the prefixes of carrier 2: the policy of the
+/// worked examples.
 #[tactic(auto, using(crate::proofs::Adding::next_rule))]
 pub fn filters() -> Filters
-    ensures { rules_of result ≡ broker_rules }
+    ensures rules { rules_of result ≡ broker_rules }
+    ensures meaning { filters_meaning result ≡ filters }
 {
     let carrier_two = Test::Holds {
         column: 1,
