@@ -8,7 +8,7 @@ use Rattle.semantics.specs.declared.kind.Column.{Column}
 use Rattle.semantics.specs.Books.{limit_of}
 use Rattle.cells.specs.declared.cell.Cell.{Cell}
 use Rattle.cells.specs.declared.cell.Cell.TheVariants.{Number}
-use Rattle.book.specs.Layout.{row_start, place, cell_at, width_of, used, is_zero, Clean, Removed}
+use Rattle.book.specs.Layout.{row_start, cell_index, cell_at, width_of, used, is_zero, Clean, Removed}
 use Rattle.book.proofs.Memory.{slice_index_or_same, put-out, put-past}
 
 -- the same by table, row and column
@@ -19,19 +19,19 @@ abbrev CleanAt : List (List Column) → List ℕ → List Cell → Type 0
 CleanAt S ns cells = (t r c : ℕ) → t < 4 → c < 8 → used_at S ns t r c ≡ false → is_zero (cell_at cells t r c) ≡ true
 
 module _ (S : List (List Column)) (ns : List ℕ) (cells : List Cell) where
-  pub used-place : (t r c : ℕ) → t < 4 → c < 8 → used S ns (place t r c) ≡ used_at S ns t r c
+  pub used-place : (t r c : ℕ) → t < 4 → c < 8 → used S ns (cell_index t r c) ≡ used_at S ns t r c
   used-place t r c a b =
-      let row : place t r c / 32 ≡ r = omega arith in
-      let table : place t r c / 8 % 4 ≡ t = omega arith in
-      let column : place t r c % 8 ≡ c = omega arith in
+      let row : cell_index t r c / 32 ≡ r = omega arith in
+      let table : cell_index t r c / 8 % 4 ≡ t = omega arith in
+      let column : cell_index t r c % 8 ≡ c = omega arith in
       rw (row, table, column)
 
   to_at : Clean S ns cells → CleanAt S ns cells
-  to_at h t r c a b u = h (place t r c) (used-place t r c a b ∙ u)
+  to_at h t r c a b u = h (cell_index t r c) (used-place t r c a b ∙ u)
 
   from_at : CleanAt S ns cells → Clean S ns cells
   from_at h k u =
-      let p : place (k / 8 % 4) (k / 32) (k % 8) ≡ k = omega arith in
+      let p : cell_index (k / 8 % 4) (k / 32) (k % 8) ≡ k = omega arith in
       subst (λ j. is_zero (get_or cells j (Number 0)) ≡ true) p (h (k / 8 % 4) (k / 32) (k % 8) (omega arith) (omega arith) u)
 
 -- a memory of zeros
@@ -99,8 +99,8 @@ module _ (S : List (List Column)) (ns : List ℕ) (old new : List Cell) (t row n
           (cases_eq u t)
 
 -- a cell in use is written
-pub clean_amend : (S : List (List Column)) (ns : List ℕ) (cells : List Cell) (t r c : ℕ) (x : Cell) → t < 4 → c < 8 → r < get_or ns t 0 → c < width_of S t → Clean S ns cells → Clean S ns (set cells (place t r c) x)
+pub clean_amend : (S : List (List Column)) (ns : List ℕ) (cells : List Cell) (t r c : ℕ) (x : Cell) → t < 4 → c < 8 → r < get_or ns t 0 → c < width_of S t → Clean S ns cells → Clean S ns (set cells (cell_index t r c) x)
 clean_amend S ns cells t r c x a b d e clean k free =
     let u : used_at S ns t r c ≡ true = grind (arith, nat_tests) in
-    let ne : k ≢ place t r c = λ p. true≢false (sym (used-place S ns cells t r c a b ∙ u) ∙ (ap (used S ns) (sym p) ∙ free)) in
-    rw (get_or-set_other cells (place t r c) k x (Number 0) ne) (clean k free)
+    let ne : k ≢ cell_index t r c = λ p. true≢false (sym (used-place S ns cells t r c a b ∙ u) ∙ (ap (used S ns) (sym p) ∙ free)) in
+    rw (get_or-set_other cells (cell_index t r c) k x (Number 0) ne) (clean k free)

@@ -10,7 +10,7 @@ use Rattle.semantics.proofs.Lawful.{rows-within}
 use Rattle.cells.specs.declared.cell.Cell.{Cell}
 use Rattle.cells.specs.declared.cell.Cell.TheVariants.{Number}
 use Rattle.cells.specs.Cells.{cell_value}
-use Rattle.book.specs.Layout.{row_start, place, cell_at, width_of, row_in, table_in, model_in}
+use Rattle.book.specs.Layout.{row_start, cell_index, cell_at, width_of, row_in, table_in, model_in}
 use Rattle.book.proofs.Tabled.{length_tabled, slice_index_or_tabled, tabled-is, tabled-same}
 
 -- a list of one value has it everywhere
@@ -71,12 +71,12 @@ pub table_same : (old new : List Cell) (t w n : ℕ) → ((r c : ℕ) → r < n 
 table_same old new t w n h = tabled-same (row_in new t w) (row_in old t w) n [] (λ r a. row_same old new t t w r r (λ c b. h r c a b))
 
 -- a place of another row or table is none of the 8 of this row
-pub apart : (t r u s c : ℕ) → t < 4 → u < 4 → c < 8 → (u ≢ t) ⊎ (s ≢ r) → (place u s c < row_start t r) ⊎ (row_start t r + 8 ≤ place u s c)
+pub apart : (t r u s c : ℕ) → t < 4 → u < 4 → c < 8 → (u ≢ t) ⊎ (s ≢ r) → (cell_index u s c < row_start t r) ⊎ (row_start t r + 8 ≤ cell_index u s c)
 apart t r u s c a b d e =
     ⊎_elim
-    (λ (l : place u s c < row_start t r). inl l)
-    (λ (g : row_start t r ≤ place u s c). inr (⊎_elim (λ (ne : u ≢ t). omega arith) (λ (ne : s ≢ r). omega arith) e))
-    (cases_lt (place u s c) (row_start t r))
+    (λ (l : cell_index u s c < row_start t r). inl l)
+    (λ (g : row_start t r ≤ cell_index u s c). inr (⊎_elim (λ (ne : u ≢ t). omega arith) (λ (ne : s ≢ r). omega arith) e))
+    (cases_lt (cell_index u s c) (row_start t r))
 
 -- the memory after the first w of some cells are written to a row
 module _ (cells src : List Cell) (t r w : ℕ) (in' : t < 4) (narrow : w ≤ 8) (room : r < limit_of (length cells)) (enough : w ≤ length src) where
@@ -92,7 +92,7 @@ module _ (cells src : List Cell) (t r w : ℕ) (in' : t < 4) (narrow : w ≤ 8) 
   pub put-out : (u s c : ℕ) → u < 4 → c < 8 → (u ≢ t) ⊎ (s ≢ r) → cell_at (paste cells (row_start t r) src w) u s c ≡ cell_at cells u s c
   put-out u s c a b d =
       let fits : row_start t r + w ≤ length cells = omega arith in
-      ⊎_elim (λ (l : place u s c < row_start t r). grind (arith, places)) (λ (l : row_start t r + 8 ≤ place u s c). grind (arith, places)) (apart t r u s c in' a b d)
+      ⊎_elim (λ (l : cell_index u s c < row_start t r). grind (arith, places)) (λ (l : row_start t r + 8 ≤ cell_index u s c). grind (arith, places)) (apart t r u s c in' a b d)
 
 -- counts and cells by other names
 pub at-parts : (P : List ℕ → List Cell → Type 0) (ns ms : List ℕ) (cells others : List Cell) → ms ≡ ns → others ≡ cells → P ns cells → P ms others

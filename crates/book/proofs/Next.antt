@@ -12,7 +12,7 @@ use Rattle.cells.specs.Cells.{cell_value}
 use Rattle.book.specs.declared.book.Book.{Book}
 use Rattle.book.specs.Books.{book_model, memory}
 use Rattle.book.specs.Columns.{columns_in}
-use Rattle.book.specs.Layout.{row_start, place, width_of, model_in, Clean, Removed}
+use Rattle.book.specs.Layout.{row_start, cell_index, width_of, model_in, Clean, Removed}
 use Rattle.book.proofs.Amending.{amend_model}
 use Rattle.book.proofs.Cleaning.{clean_store, clean_strike, clean_amend}
 use Rattle.book.proofs.Listing.{width-le}
@@ -91,11 +91,11 @@ module _ (b : Book) (t : ℕ) where
         let w = width-le b.tables t in
         (k.0, omega arith, k.2, omega arith, omega arith)
 
-    pub amend_next : (ms : List ℕ) (cells : List Cell) → ms ≡ ns → cells ≡ set (memory b) (place t r c) x → Next S (with_rows (book_model b) t (set (rows_of (book_model b) t) r (set (get_or (rows_of (book_model b) t) r []) c (cell_value x)))) ms cells
+    pub amend_next : (ms : List ℕ) (cells : List Cell) → ms ≡ ns → cells ≡ set (memory b) (cell_index t r c) x → Next S (with_rows (book_model b) t (set (rows_of (book_model b) t) r (set (get_or (rows_of (book_model b) t) r []) c (cell_value x)))) ms cells
     amend_next ms cells e f =
         let k = amend_fits in
         let model = amend_model S ns (memory b) t r c x (width-le b.tables) k.0 k.1 k.2 k.3 in
-        at-parts (Next S (with_rows (book_model b) t (set (rows_of (book_model b) t) r (set (get_or (rows_of (book_model b) t) r []) c (cell_value x))))) ns ms (set (memory b) (place t r c) x) cells e f (record {
+        at-parts (Next S (with_rows (book_model b) t (set (rows_of (book_model b) t) r (set (get_or (rows_of (book_model b) t) r []) c (cell_value x))))) ns ms (set (memory b) (cell_index t r c) x) cells e f (record {
           model = model;
           counted = b.counted;
           law = ap lawful model ∙ amend_lawful (book_model b) t b.fitting r c (cell_value x) may;

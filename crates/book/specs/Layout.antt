@@ -12,12 +12,12 @@ use Rattle.cells.specs.Cells.{cell_value}
 abbrev pub row_start : ℕ → ℕ → ℕ
 row_start t r = 32 * r + 8 * t
 
-abbrev pub place : ℕ → ℕ → ℕ → ℕ
-place t r c = row_start t r + c
+abbrev pub cell_index : ℕ → ℕ → ℕ → ℕ
+cell_index t r c = row_start t r + c
 
 -- The cell of a table, a row and a column.
 abbrev pub cell_at : List Cell → ℕ → ℕ → ℕ → Cell
-cell_at cells t r c = slice_index_or cells (place t r c) (Number 0)
+cell_at cells t r c = slice_index_or cells (cell_index t r c) (Number 0)
 
 -- How many columns a table has.
 abbrev pub width_of : List (List Column) → ℕ → ℕ

@@ -3,7 +3,7 @@ ghost use Rattle.semantics.specs.Books.{limit_of, may_amend, amended};
 ghost use Rattle.semantics.specs.Outcomes.{AnswersAs, Steps, Kept, done};
 ghost use Rattle.cells.specs.Cells.{cell_value};
 ghost use Rattle.book.specs.Books.{book_model, memory, UnusedAreZero};
-ghost use Rattle.book.specs.Layout.{place};
+ghost use Rattle.book.specs.Layout.{cell_index};
 
 use crate::book::{Book, Rows};
 use crate::slot::Slot;
@@ -15,7 +15,7 @@ impl Rows<'_> {
     fn put(&mut self, at: Slot, column: usize, cell: Cell)
         requires { (at.row < limit_of (length self.old.cells.now)) × (column < 8) }
         ensures counts { self.new.counts ≡ self.old.counts }
-        ensures cells { self.new.cells.now ≡ slice_set self.old.cells.now (place at.table at.row column) cell }
+        ensures cells { self.new.cells.now ≡ slice_set self.old.cells.now (cell_index at.table at.row column) cell }
     {
         self.cells[at.start() + column] = cell;
     }

@@ -11,7 +11,7 @@ use Rattle.semantics.specs.Lists.{tabled}
 use Rattle.semantics.specs.Marks.{is_mark}
 use Rattle.semantics.specs.Standing.{HasCell}
 use Rattle.semantics.specs.Values.{Value, same_value}
-use Rattle.semantics.specs.Views.{value, pseudonym, Place, place_of, places, held, domain_of, marks, linked_places, linked_values, index_of, masked, seen, drawn}
+use Rattle.semantics.specs.Views.{value, pseudonym, Place, place_of, places, content, domain_of, marks, linked_places, linked_values, index_of, masked, seen, drawn}
 use Rattle.semantics.proofs.Member.{mem_kept_back, kept-agree, joined-agree, tabled-agree, mem_counting_back}
 use Rattle.semantics.proofs.Places.{has-cell}
 use Rattle.semantics.proofs.Marks.{is-linked}
@@ -56,24 +56,24 @@ module _ (a b : Model) (mark_a mark_b : Place → Mark) (alike : Indistinguishab
       ∙ ap (filter (λ p. is_mark (mark_b p) Linked && eqb (domain_of b p) d)) same-places
 
   same_index : (p : Place) → HasCell a p → mark_a p ≡ Linked → 0 < domain_of a p
-      → index_of (linked_values mark_a a (domain_of a p)) (held a p) ≡ index_of (linked_values mark_b b (domain_of b p)) (held b p)
+      → index_of (linked_values mark_a a (domain_of a p)) (content a p) ≡ index_of (linked_values mark_b b (domain_of b p)) (content b p)
   same_index p h l d =
-      index-agree (held a) (held b) (held a p) (held b p) (linked_places mark_a a (domain_of a p)) (λ q k.
+      index-agree (content a) (content b) (content a p) (content b p) (linked_places mark_a a (domain_of a p)) (λ q k.
       let i = mem_kept_back (λ q. is_mark (mark_a q) Linked && eqb (domain_of a q) (domain_of a p)) (places a) k in
       let j = and_parts (is_mark (mark_a q) Linked) (eqb (domain_of a q) (domain_of a p)) i.1 in
       let e = eqb-true (domain_of a q) (domain_of a p) j.1 in
-      same_tests (held a q) (held a p) (held b q) (held b p)
+      same_tests (content a q) (content a p) (content b q) (content b p)
       (alike.same_links q p (has-cell a q i.0) h (is-linked (mark_a q) j.0) l (omega arith) e))
-      ∙ ap (λ l. index_of (map (held b) l) (held b p)) (same-linked (domain_of a p))
-      ∙ ap (λ d. index_of (linked_values mark_b b d) (held b p)) (same-domain p)
+      ∙ ap (λ l. index_of (map (content b) l) (content b p)) (same-linked (domain_of a p))
+      ∙ ap (λ d. index_of (linked_values mark_b b d) (content b p)) (same-domain p)
 
   same_seen : (p : Place) → HasCell a p → seen mark_a a p ≡ seen mark_b b p
   same_seen p h =
       go (mark_a p) (domain_of a p) refl refl
-      ∙ ap₂ (λ x d. masked x d p (held b p) (index_of (linked_values mark_b b (domain_of b p)) (held b p))) (alike.same_marks p h) (same-domain p)
+      ∙ ap₂ (λ x d. masked x d p (content b p) (index_of (linked_values mark_b b (domain_of b p)) (content b p))) (alike.same_marks p h) (same-domain p)
     where
       go : (x : Mark) (d : ℕ) → mark_a p ≡ x → domain_of a p ≡ d
-          → masked x d p (held a p) (index_of (linked_values mark_a a (domain_of a p)) (held a p)) ≡ masked x d p (held b p) (index_of (linked_values mark_b b (domain_of b p)) (held b p))
+          → masked x d p (content a p) (index_of (linked_values mark_a a (domain_of a p)) (content a p)) ≡ masked x d p (content b p) (index_of (linked_values mark_b b (domain_of b p)) (content b p))
       go Hidden d e f = refl
       go Linked zero e f = refl
       go Linked (suc d) e f = ap (pseudonym (suc d)) (same_index p h e (omega arith))

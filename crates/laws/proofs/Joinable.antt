@@ -16,10 +16,10 @@ use Rattle.semantics.specs.Small.{Small}
 use Rattle.semantics.specs.Standing.{StandsIn, HasCell}
 use Rattle.semantics.specs.Valuations.{is_value_of, is_proper}
 use Rattle.semantics.specs.Values.{Value, number, prefix}
-use Rattle.semantics.specs.Views.{Masked, Place, place_of, held, seen, drawn}
+use Rattle.semantics.specs.Views.{Masked, Place, place_of, content, seen, drawn}
 use Rattle.semantics.proofs.Compatible.{every-members}
 use Rattle.semantics.proofs.Every.{every_slice_index_or}
-use Rattle.semantics.proofs.Held.{held-value}
+use Rattle.semantics.proofs.Contents.{content-value}
 use Rattle.semantics.proofs.Joined.{joined-compatible, compatible-joined}
 use Rattle.semantics.proofs.Lawful.{rows-within}
 use Rattle.semantics.proofs.Member.{mem_joined_back, mem_tabled_back}
@@ -61,7 +61,7 @@ cells_stand tables m =
 
 module _ (m : Model) (good : Orderly m) (mark : Place → Mark) where
   sight-proper : (p : Place) → HasCell m p → {a : Masked} → Sight mark m p a → proper_cell a ≡ true
-  sight-proper p h (as_value e) = value-proper (column_at (columns_of m p.table) p.column).kind (held m p) (held-value m good p h)
+  sight-proper p h (as_value e) = value-proper (column_at (columns_of m p.table) p.column).kind (content m p) (content-value m good p h)
   sight-proper p h as_variable = refl
   sight-proper p h (as_pseudonym e d) = refl
 

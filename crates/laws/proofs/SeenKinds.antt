@@ -10,9 +10,9 @@ use Rattle.semantics.specs.Orderly.{Orderly}
 use Rattle.semantics.specs.Standing.{HasCell}
 use Rattle.semantics.specs.Valuations.{masked_kind}
 use Rattle.semantics.specs.Values.{kind_of}
-use Rattle.semantics.specs.Views.{Masked, Place, place_of, held, seen, drawn}
+use Rattle.semantics.specs.Views.{Masked, Place, place_of, content, seen, drawn}
 use Rattle.semantics.proofs.Domains.{same_kind_lem, domain-kind}
-use Rattle.semantics.proofs.Held.{held-kind, has-column}
+use Rattle.semantics.proofs.Contents.{content-kind, has-column}
 use Rattle.semantics.proofs.Member.{tabled-agree, map_tabled, mem_tabled_back}
 use Rattle.semantics.proofs.Seen.{Sight, as_value, as_variable, as_pseudonym, sight, row_seen, table_seen}
 use Rattle.laws.specs.Kinds.{ViewsKeepKinds}
@@ -22,7 +22,7 @@ module _ (m : Model) (good : Orderly m) (mark : Place → Mark) where
   kind_at t c = (column_at (columns_of m t) c).kind
 
   seen-kind-go : (p : Place) → HasCell m p → {a : Masked} → Sight mark m p a → masked_kind m.columns a ≡ kind_at p.table p.column
-  seen-kind-go p h (as_value x) = sym (same_kind_lem (kind_at p.table p.column) (kind_of (held m p)) (held-kind m good p h))
+  seen-kind-go p h (as_value x) = sym (same_kind_lem (kind_at p.table p.column) (kind_of (content m p)) (content-kind m good p h))
   seen-kind-go p h as_variable = refl
   seen-kind-go p h (as_pseudonym x d) =
       sym (domain-kind m.columns good.domains_agree (column_at (columns_of m p.table) p.column) (has-column m good p h) d)

@@ -8,7 +8,7 @@ use Rattle.semantics.specs.Faithful.{Faithful, changed}
 use Rattle.semantics.specs.Marks.{rank}
 use Rattle.semantics.specs.Standing.{HasCell, StandsIn}
 use Rattle.semantics.specs.Values.{Value}
-use Rattle.semantics.specs.Views.{Masked, value, pseudonym, Place, place_of, places, held, domain_of, marks, linked_values, index_of, seen, drawn}
+use Rattle.semantics.specs.Views.{Masked, value, pseudonym, Place, place_of, places, content, domain_of, marks, linked_values, index_of, seen, drawn}
 use Rattle.semantics.specs.Wider.{Wider, LinkedBecome, same_masked, at_first, translated}
 use Rattle.semantics.proofs.Marks.{widest}
 use Rattle.semantics.proofs.Masked.{same-masked, masked_same}
@@ -37,11 +37,11 @@ module _ (m : Model) (narrow wide : Place → Mark) (wider : Wider m narrow wide
   abbrev σ : Masked → Masked
   σ = translated narrow wide m
 
-  wide-shown : (p : Place) → HasCell m p → narrow p ≡ Shown → W p ≡ value (held m p)
+  wide-shown : (p : Place) → HasCell m p → narrow p ≡ Shown → W p ≡ value (content m p)
   wide-shown p h e = seen-shown wide m p (widest (wide p) (subst (λ x. rank x ≤ rank (wide p)) e (wider.none_narrower p h)))
 
   -- linked cells of one domain that hold one value
-  agree-linked : (p q : Place) → HasCell m p → HasCell m q → narrow p ≡ Linked → narrow q ≡ Linked → 0 < domain_of m p → domain_of m p ≡ domain_of m q → held m p ≡ held m q → W p ≡ W q
+  agree-linked : (p q : Place) → HasCell m p → HasCell m q → narrow p ≡ Linked → narrow q ≡ Linked → 0 < domain_of m p → domain_of m p ≡ domain_of m q → content m p ≡ content m q → W p ≡ W q
   agree-linked p q h k x y d e v = go (wider.all_the_same (domain_of m p) d)
     where
       go : LinkedBecome Linked m narrow wide (domain_of m p) ⊎ LinkedBecome Shown m narrow wide (domain_of m p) → W p ≡ W q
@@ -84,27 +84,27 @@ module _ (m : Model) (narrow wide : Place → Mark) (wider : Wider m narrow wide
   at-bearer : {d n : ℕ} (b : Bearer narrow m d n) → σ (pseudonym d n) ≡ W b.place
   at-bearer b = sym (ap σ b.is) ∙ translates b.place b.cell
 
-  becomes-linked : {d n : ℕ} (b : Bearer narrow m d n) → LinkedBecome Linked m narrow wide d → σ (pseudonym d n) ≡ pseudonym d (index_of (linked_values wide m d) (held m b.place))
+  becomes-linked : {d n : ℕ} (b : Bearer narrow m d n) → LinkedBecome Linked m narrow wide d → σ (pseudonym d n) ≡ pseudonym d (index_of (linked_values wide m d) (content m b.place))
   becomes-linked b l =
       at-bearer b
       ∙ seen-linked wide m b.place (l b.place b.cell b.domain b.linked) (let x = b.domain in let y = b.positive in omega arith)
-      ∙ ap (λ d. pseudonym d (index_of (linked_values wide m d) (held m b.place))) b.domain
+      ∙ ap (λ d. pseudonym d (index_of (linked_values wide m d) (content m b.place))) b.domain
 
-  becomes-shown : {d n : ℕ} (b : Bearer narrow m d n) → LinkedBecome Shown m narrow wide d → σ (pseudonym d n) ≡ value (held m b.place)
+  becomes-shown : {d n : ℕ} (b : Bearer narrow m d n) → LinkedBecome Shown m narrow wide d → σ (pseudonym d n) ≡ value (content m b.place)
   becomes-shown b l = at-bearer b ∙ seen-shown wide m b.place (l b.place b.cell b.domain b.linked)
 
   apart : (d n k : ℕ) → Bearer narrow m d n → Bearer narrow m d k → σ (pseudonym d n) ≡ σ (pseudonym d k) → n ≡ k
   apart d n k p q e =
       p.index ∙ ap (index_of (linked_values narrow m d)) (go (wider.all_the_same d p.positive)) ∙ sym q.index
     where
-      go : LinkedBecome Linked m narrow wide d ⊎ LinkedBecome Shown m narrow wide d → held m p.place ≡ held m q.place
+      go : LinkedBecome Linked m narrow wide d ⊎ LinkedBecome Shown m narrow wide d → content m p.place ≡ content m q.place
       go (inl l) =
           let i = l p.place p.cell p.domain p.linked in
           let j = l q.place q.cell q.domain q.linked in
           let f = sym (becomes-linked p l) ∙ e ∙ becomes-linked q l in
-          index-apart (held m p.place) (held m q.place) (linked_values wide m d)
-          (subst (λ x. Memᴰ (held m p.place) (linked_values wide m x)) p.domain (in_linked wide m p.place p.cell i))
-          (subst (λ x. Memᴰ (held m q.place) (linked_values wide m x)) q.domain (in_linked wide m q.place q.cell j))
+          index-apart (content m p.place) (content m q.place) (linked_values wide m d)
+          (subst (λ x. Memᴰ (content m p.place) (linked_values wide m x)) p.domain (in_linked wide m p.place p.cell i))
+          (subst (λ x. Memᴰ (content m q.place) (linked_values wide m x)) q.domain (in_linked wide m q.place q.cell j))
           (cc)
       go (inr l) = let f = sym (becomes-shown p l) ∙ e ∙ becomes-shown q l in cc
 
@@ -120,8 +120,8 @@ module _ (m : Model) (narrow wide : Place → Mark) (wider : Wider m narrow wide
     where
       go : LinkedBecome Linked m narrow wide (suc d) ⊎ LinkedBecome Shown m narrow wide (suc d)
           → ((n : ℕ) → Stand (suc d) n → (k : ℕ) × (σ (pseudonym (suc d) n) ≡ pseudonym (suc d) k)) ⊎ ((n : ℕ) → Stand (suc d) n → (v : Value) × (σ (pseudonym (suc d) n) ≡ value v))
-      go (inl l) = inl (λ n s. let b = bearer narrow m (suc d) n s in (index_of (linked_values wide m (suc d)) (held m b.place), becomes-linked b l))
-      go (inr l) = inr (λ n s. let b = bearer narrow m (suc d) n s in (held m b.place, becomes-shown b l))
+      go (inl l) = inl (λ n s. let b = bearer narrow m (suc d) n s in (index_of (linked_values wide m (suc d)) (content m b.place), becomes-linked b l))
+      go (inr l) = inr (λ n s. let b = bearer narrow m (suc d) n s in (content m b.place, becomes-shown b l))
 
   pub translation_faithful : Faithful (drawn narrow m) σ
   translation_faithful = record {

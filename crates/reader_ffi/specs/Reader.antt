@@ -12,9 +12,9 @@ abbrev pub outcome : List ℕ → Outcome Tree
 outcome query = questions reader_tables query
 
 -- The number of a refusal, 0 where there is none.
-abbrev pub number_in : Outcome Tree → ℕ
-number_in (refused n p) = n
-number_in (done q) = 0
+abbrev pub refused_number : Outcome Tree → ℕ
+refused_number (refused n p) = n
+refused_number (done q) = 0
 
 -- The place of a refusal, or the count of records.
 abbrev pub place_in : Outcome Tree → ℕ

@@ -8,7 +8,7 @@ ghost use Rattle.semantics.specs.Queries.{Tree, nodes, kinds_of};
 ghost use Rattle.query.specs.Kinds.{kinds_in};
 ghost use Rattle.query.specs.Plans.{Plans, Checks};
 ghost use Rattle.tariffs.specs.Columns.{reader_tables};
-ghost use Rattle.reader_ffi.specs.Reader.{outcome, number_in, place_in, kind_in, bare};
+ghost use Rattle.reader_ffi.specs.Reader.{outcome, refused_number, place_in, kind_in, bare};
 
 use cells::Cell;
 use query::{Kinds, Plan, check};
@@ -53,7 +53,7 @@ fn kind(query: &[u8], column: usize) -> Option<Kind>
 /// The number that a query is refused with, 0 where it passes.
 #[unsafe(no_mangle)]
 pub extern "C" fn reader_number(query: &[u8]) -> u8
-    ensures { result ≡ number_in (outcome query.now) }
+    ensures { result ≡ refused_number (outcome query.now) }
 {
     read(query).err().map_or(0, |refusal| refusal.number())
 }

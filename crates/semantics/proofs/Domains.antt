@@ -31,14 +31,14 @@ every-joined p xss all m =
     every_mem p h.0 (every_mem (every p) xss all h.1) h.2
 
 -- the first column of a domain that has one
-abbrev First : ℕ → List Column → Kind → Type 0
-First d cs kind = (k : Column) × Memᴰ k cs × (k.domain ≡ d) × (kind ≡ k.kind)
+abbrev FirstWith : ℕ → List Column → Kind → Type 0
+FirstWith d cs kind = (k : Column) × Memᴰ k cs × (k.domain ≡ d) × (kind ≡ k.kind)
 
-first_kind_lem : (d : ℕ) (cs : List Column) {c : Column} → Memᴰ c cs → c.domain ≡ d → First d cs (first_kind d cs)
+first_kind_lem : (d : ℕ) (cs : List Column) {c : Column} → Memᴰ c cs → c.domain ≡ d → FirstWith d cs (first_kind d cs)
 first_kind_lem d [] m e = elim m [ ]
 first_kind_lem d (x ∷ xs) {c} m e = go (eqb x.domain d) refl m (λ n. first_kind_lem d xs n e)
   where
-    go : (b : Bool) → eqb x.domain d ≡ b → Memᴰ c (x ∷ xs) → (Memᴰ c xs → First d xs (first_kind d xs)) → First d (x ∷ xs) (cond b x.kind (first_kind d xs))
+    go : (b : Bool) → eqb x.domain d ≡ b → Memᴰ c (x ∷ xs) → (Memᴰ c xs → FirstWith d xs (first_kind d xs)) → FirstWith d (x ∷ xs) (cond b x.kind (first_kind d xs))
     go true t n ih = (x, Memᴰ.head refl, eqb-true x.domain d t, refl)
     go false t (Memᴰ.head h) ih = absurd (false≢true (sym t ∙ eq-eqb x.domain d (sym (ap (λ y. y.domain) h) ∙ e)))
     go false t (Memᴰ.tail n) ih = let h = ih n in (h.0, Memᴰ.tail h.1, h.2, h.3)

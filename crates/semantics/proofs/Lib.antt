@@ -8,7 +8,7 @@ pub mod Places
 pub mod Marks
 pub mod Masked
 pub mod Seen
-pub mod Held
+pub mod Contents
 pub mod Domains
 pub mod Orderly
 pub mod Faithful

@@ -13,7 +13,7 @@ use Rattle.semantics.specs.Queries.{Tree, table, select, project, product, union
 use Rattle.semantics.specs.Truths.{cell_at, truth, is_true, may_be_true}
 use Rattle.semantics.specs.Views.{Masked}
 use Rattle.semantics.proofs.Compatible.{rows_same, same_rows}
-use Rattle.semantics.proofs.Held.{pairwise_length}
+use Rattle.semantics.proofs.Contents.{pairwise_length}
 use Rattle.semantics.proofs.LowHigh.{low-high}
 use Rattle.semantics.proofs.Member.{mem_map_back, mem_kept, mem_kept_back}
 use Rattle.semantics.proofs.Rows.{mem_without_back, mem_paired_back}

@@ -9,7 +9,7 @@ use Rattle.semantics.specs.Lists.{tabled}
 use Rattle.semantics.specs.Marks.{is_mark}
 use Rattle.semantics.specs.Standing.{HasCell, StandsIn}
 use Rattle.semantics.specs.Values.{Value, number, same_value}
-use Rattle.semantics.specs.Views.{Masked, value, variable, pseudonym, Place, place_of, held, domain_of, linked_values, index_of, masked, seen, drawn}
+use Rattle.semantics.specs.Views.{Masked, value, variable, pseudonym, Place, place_of, content, domain_of, linked_values, index_of, masked, seen, drawn}
 use Rattle.semantics.proofs.Member.{mem_map, mem_kept, mem_tabled, mem_tabled_back}
 use Rattle.semantics.proofs.Places.{mem_places}
 use Rattle.semantics.proofs.Values.{same-value, value_same}
@@ -36,40 +36,40 @@ masked-linked (suc d) p v n h = refl
 
 module _ (mark : Place → Mark) (m : Model) where
   abbrev pub numbered : Place → ℕ
-  numbered p = index_of (linked_values mark m (domain_of m p)) (held m p)
+  numbered p = index_of (linked_values mark m (domain_of m p)) (content m p)
 
   -- the three ways in which a cell is seen
   pub data Sight (p : Place) : Masked → Type 0 where
-    as_value : mark p ≡ Shown → Sight p (value (held m p))
+    as_value : mark p ≡ Shown → Sight p (value (content m p))
     as_variable : Sight p (variable p.table p.row p.column)
     as_pseudonym : mark p ≡ Linked → 0 < domain_of m p → Sight p (pseudonym (domain_of m p) (numbered p))
 
   pub sight : (p : Place) → Sight p (seen mark m p)
   sight p = go (mark p) (domain_of m p) refl refl
     where
-      go : (x : Mark) (d : ℕ) → mark p ≡ x → domain_of m p ≡ d → Sight p (masked x d p (held m p) (numbered p))
+      go : (x : Mark) (d : ℕ) → mark p ≡ x → domain_of m p ≡ d → Sight p (masked x d p (content m p) (numbered p))
       go Hidden d e f = as_variable
       go Linked zero e f = as_variable
       go Linked (suc d) e f = subst (λ x. Sight p (pseudonym x (numbered p))) f (as_pseudonym e (omega arith))
       go Shown d e f = as_value e
 
-  pub seen-shown : (p : Place) → mark p ≡ Shown → seen mark m p ≡ value (held m p)
+  pub seen-shown : (p : Place) → mark p ≡ Shown → seen mark m p ≡ value (content m p)
   seen-shown p e = rw e
 
   pub seen-linked : (p : Place) → mark p ≡ Linked → 0 < domain_of m p → seen mark m p ≡ pseudonym (domain_of m p) (numbered p)
-  seen-linked p e h = rw e (masked-linked (domain_of m p) p (held m p) (numbered p) h)
+  seen-linked p e h = rw e (masked-linked (domain_of m p) p (content m p) (numbered p) h)
 
-  pub in_linked : (p : Place) → HasCell m p → mark p ≡ Linked → Memᴰ (held m p) (linked_values mark m (domain_of m p))
+  pub in_linked : (p : Place) → HasCell m p → mark p ≡ Linked → Memᴰ (content m p) (linked_values mark m (domain_of m p))
   in_linked p h e =
-      mem_map (held m) (mem_kept (λ q. is_mark (mark q) Linked && eqb (domain_of m q) (domain_of m p)) (mem_places m p h)
+      mem_map (content m) (mem_kept (λ q. is_mark (mark q) Linked && eqb (domain_of m q) (domain_of m p)) (mem_places m p h)
       (and_from (is_mark (mark p) Linked) (eqb (domain_of m p) (domain_of m p)) (rw e) (eq-eqb (domain_of m p) (domain_of m p) refl)))
 
   -- linked cells of one domain with one index hold one value
-  pub held_same : (p q : Place) → HasCell m p → HasCell m q → mark p ≡ Linked → mark q ≡ Linked → domain_of m p ≡ domain_of m q → numbered p ≡ numbered q → held m p ≡ held m q
+  pub held_same : (p q : Place) → HasCell m p → HasCell m q → mark p ≡ Linked → mark q ≡ Linked → domain_of m p ≡ domain_of m q → numbered p ≡ numbered q → content m p ≡ content m q
   held_same p q h k x y e n =
-      index-apart (held m p) (held m q) (linked_values mark m (domain_of m p)) (in_linked p h x)
-      (subst (λ d. Memᴰ (held m q) (linked_values mark m d)) (sym e) (in_linked q k y))
-      (n ∙ ap (λ d. index_of (linked_values mark m d) (held m q)) (sym e))
+      index-apart (content m p) (content m q) (linked_values mark m (domain_of m p)) (in_linked p h x)
+      (subst (λ d. Memᴰ (content m q) (linked_values mark m d)) (sym e) (in_linked q k y))
+      (n ∙ ap (λ d. index_of (linked_values mark m d) (content m q)) (sym e))
 
   -- the view of a row, and of a table
   abbrev pub row_seen : ℕ → ℕ → List Masked
@@ -78,21 +78,21 @@ module _ (mark : Place → Mark) (m : Model) where
   abbrev pub table_seen : ℕ → List (List Masked)
   table_seen t = tabled (row_seen t) (length (rows_of m t))
 
-  abbrev Found : Masked → Type 0
-  Found a = (p : Place) × HasCell m p × (seen mark m p ≡ a)
+  abbrev Sighted : Masked → Type 0
+  Sighted a = (p : Place) × HasCell m p × (seen mark m p ≡ a)
 
-  in_row : (t r : ℕ) {a : Masked} → t < 4 → r < length (rows_of m t) → Memᴰ a (row_seen t r) → Found a
+  in_row : (t r : ℕ) {a : Masked} → t < 4 → r < length (rows_of m t) → Memᴰ a (row_seen t r) → Sighted a
   in_row t r i j k =
       let h = mem_tabled_back (λ c. seen mark m (place_of t r c)) (length (columns_of m t)) k in
       (place_of t r h.0, record { in_tables = i; in_rows = j; in_columns = h.1 }, sym h.2)
 
-  in_table : (t : ℕ) {a : Masked} {cells : List Masked} → t < 4 → Memᴰ cells (table_seen t) → Memᴰ a cells → Found a
+  in_table : (t : ℕ) {a : Masked} {cells : List Masked} → t < 4 → Memᴰ cells (table_seen t) → Memᴰ a cells → Sighted a
   in_table t {a} i j k =
       let h = mem_tabled_back (row_seen t) (length (rows_of m t)) j in
       in_row t h.0 i h.1 (subst (Memᴰ a) h.2 k)
 
   -- a cell that a symbol of the view stands for
-  pub standing : {a : Masked} → StandsIn (drawn mark m) a → Found a
+  pub standing : {a : Masked} → StandsIn (drawn mark m) a → Sighted a
   standing s =
       let h = mem_tabled_back table_seen 4 s.in_tables in
       in_table h.0 h.1 (subst (Memᴰ s.cells) h.2 s.in_rows) s.in_cells
@@ -115,7 +115,7 @@ module _ (mark : Place → Mark) (m : Model) where
     pub linked : mark place ≡ Linked
     pub positive : 0 < d
     pub domain : domain_of m place ≡ d
-    pub index : n ≡ index_of (linked_values mark m d) (held m place)
+    pub index : n ≡ index_of (linked_values mark m d) (content m place)
 
   bearer-go : (d n : ℕ) (p : Place) → HasCell m p → seen mark m p ≡ pseudonym d n → {a : Masked} → Sight p a → a ≡ pseudonym d n → Bearer d n
   bearer-go d n p h e (as_value x) f = let z : ◌≡◌ {A = ℕ} 0 1 = cc in absurd (omega arith)
@@ -123,7 +123,7 @@ module _ (mark : Place → Mark) (m : Model) where
   bearer-go d n p h e (as_pseudonym x y) f =
       let g : domain_of m p ≡ d = cc in
       let k : numbered p ≡ n = cc in
-      record { place = p; cell = h; is = e; linked = x; positive = omega arith; domain = g; index = sym k ∙ ap (λ z. index_of (linked_values mark m z) (held m p)) g }
+      record { place = p; cell = h; is = e; linked = x; positive = omega arith; domain = g; index = sym k ∙ ap (λ z. index_of (linked_values mark m z) (content m p)) g }
 
   pub bearer : (d n : ℕ) → StandsIn (drawn mark m) (pseudonym d n) → Bearer d n
   bearer d n s = let h = standing s in bearer-go d n h.0 h.1 h.2 (sight h.0) h.2

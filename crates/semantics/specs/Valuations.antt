@@ -10,7 +10,7 @@ use Rattle.semantics.specs.Faithful.{changed}
 use Rattle.semantics.specs.Lists.{every}
 use Rattle.semantics.specs.Standing.{StandsIn}
 use Rattle.semantics.specs.Values.{Value, number, prefix, kind_of, is_digit}
-use Rattle.semantics.specs.Views.{Masked, value, variable, pseudonym, Place, place_of, held, linked_values}
+use Rattle.semantics.specs.Views.{Masked, value, variable, pseudonym, Place, place_of, content, linked_values}
 
 -- Is it a value of the kind: a number up to 4,294,967,295, or a prefix of at most 8 decimal digits?
 abbrev pub is_value_of : Kind → Value → Bool
@@ -65,6 +65,6 @@ pub record LawfulFor (columns : List (List Column)) (tables : List (List (List M
 -- What the book itself holds: a variable has the value at its place, a pseudonym that of the linked cell with its index.
 abbrev pub own_values : (Place → Mark) → Model → Valuation
 own_values mark m = record {
-  variables = λ t r c. held m (place_of t r c);
+  variables = λ t r c. content m (place_of t r c);
   pseudonyms = λ d n. slice_index_or (linked_values mark m d) n (number 0);
 }

@@ -35,8 +35,8 @@ places m =
 abbrev pub row_of : Model → Place → List Value
 row_of m p = slice_index_or (rows_of m p.table) p.row []
 
-abbrev pub held : Model → Place → Value
-held m p = slice_index_or (row_of m p) p.column (number 0)
+abbrev pub content : Model → Place → Value
+content m p = slice_index_or (row_of m p) p.column (number 0)
 
 abbrev pub domain_of : Model → Place → ℕ
 domain_of m p = (column_at (columns_of m p.table) p.column).domain
@@ -50,7 +50,7 @@ abbrev pub linked_places : (Place → Mark) → Model → ℕ → List Place
 linked_places mark m domain = filter (λ p. is_mark (mark p) Linked && domain_of m p == domain) (places m)
 
 abbrev pub linked_values : (Place → Mark) → Model → ℕ → List Value
-linked_values mark m domain = map (held m) (linked_places mark m domain)
+linked_values mark m domain = map (content m) (linked_places mark m domain)
 
 -- The index of a value among the values of its domain's linked cells: the number of the first that is the same.
 abbrev pub index_of : List Value → Value → ℕ
@@ -65,7 +65,7 @@ masked Linked (suc d) p v index = pseudonym (suc d) index
 masked Shown domain p v index = value v
 
 abbrev pub seen : (Place → Mark) → Model → Place → Masked
-seen mark m p = masked (mark p) (domain_of m p) p (held m p) (index_of (linked_values mark m (domain_of m p)) (held m p))
+seen mark m p = masked (mark p) (domain_of m p) p (content m p) (index_of (linked_values mark m (domain_of m p)) (content m p))
 
 -- The view: the four tables as they are seen under these marks.
 abbrev pub drawn : (Place → Mark) → Model → List (List (List Masked))

@@ -1,5 +1,5 @@
 ghost use Rattle.std.specs.Prelude.{◌≡◌};
-ghost use Rattle.semantics.specs.Refusals.{refusal_number, refusal_place, refusal_meaning};
+ghost use Rattle.semantics.specs.Refusals.{refusal_number, refusal_place};
 
 use std::error::Error;
 use std::fmt;
@@ -114,9 +114,7 @@ impl Refusal {
     }
 
     /// What the refusal says, in words.
-    pub fn meaning(self) -> &'static str
-        ensures { result.now ≡ refusal_meaning self }
-    {
+    fn meaning(self) -> &'static str {
         match self {
             Refusal::NoTable => "there is no such table",
             Refusal::TooManyColumns => "the table has 8 columns already",

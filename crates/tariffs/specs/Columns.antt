@@ -22,16 +22,16 @@ declared_up_to tables t [] = tables
 declared_up_to tables t (c ∷ cs) = unless_refused tables (declared tables t (kind_number c.kind) c.domain) (λ next. declared_up_to next t cs)
 
 -- A column of numbers and one of prefixes, in a domain.
-abbrev pub number_in : ℕ → Column
-number_in domain = record { kind = Number; domain = domain }
+abbrev pub number_column : ℕ → Column
+number_column domain = record { kind = Number; domain = domain }
 
-abbrev pub prefix_in : ℕ → Column
-prefix_in domain = record { kind = Prefix; domain = domain }
+abbrev pub prefix_column : ℕ → Column
+prefix_column domain = record { kind = Prefix; domain = domain }
 
 -- Tariffs in table 0: a prefix in domain 1 and two numbers.
 abbrev pub tariff_tables : List (List Column)
-tariff_tables = (prefix_in 1 ∷ number_in 0 ∷ number_in 0 ∷ []) ∷ [] ∷ [] ∷ [] ∷ []
+tariff_tables = (prefix_column 1 ∷ number_column 0 ∷ number_column 0 ∷ []) ∷ [] ∷ [] ∷ [] ∷ []
 
 -- The same, and two numbers in table 1.
 abbrev pub reader_tables : List (List Column)
-reader_tables = (prefix_in 1 ∷ number_in 0 ∷ number_in 0 ∷ []) ∷ (number_in 0 ∷ number_in 0 ∷ []) ∷ [] ∷ [] ∷ []
+reader_tables = (prefix_column 1 ∷ number_column 0 ∷ number_column 0 ∷ []) ∷ (number_column 0 ∷ number_column 0 ∷ []) ∷ [] ∷ [] ∷ []

@@ -11,12 +11,12 @@ use Rattle.semantics.specs.Marks.{is_mark}
 use Rattle.semantics.specs.Policies.{Meaning}
 use Rattle.semantics.specs.Values as values
 use Rattle.semantics.specs.Views as semantics
-use Rattle.semantics.specs.Views.{Place, place_of, held, domain_of, linked_values, index_of, marks, masked, row_of, seen}
+use Rattle.semantics.specs.Views.{Place, place_of, content, domain_of, linked_values, index_of, marks, masked, row_of, seen}
 use Rattle.semantics.proofs.Drawing.{same-equal, index-new}
 use Rattle.cells.specs.declared.cell.Cell.TheVariants.{Number}
 use Rattle.book.specs.declared.book.Book.{Book}
 use Rattle.book.specs.Books.{book_model}
-use Rattle.book.specs.Layout.{place}
+use Rattle.book.specs.Layout.{cell_index}
 use Rattle.book.proofs.Tabled.{tabled-same}
 use Rattle.view.specs.declared.masked.Masked.{Masked}
 use Rattle.view.specs.declared.masked.Masked.TheVariants.{Value, Variable, Pseudonym}
@@ -63,24 +63,24 @@ module _ (mark : Place → Mark) (m : Model) (t r c : ℕ) (cells : List Masked)
   d = domain_of m p
 
   abbrev v : values.Value
-  v = held m p
+  v = content m p
 
   known : (n : ℕ) → Found cells m v (InDomain m p d) (Some n) → index_of (linked_values mark m d) v ≡ n
   known n (q, among, hit, is) =
-      let h = and_parts (is_pseudonym (cell_of cells q)) (values.same_value (held m q) v) hit in
-      let e = pseudonym-index (cell_of cells q) (mark q) (domain_of m q) q (held m q) (index_of (linked_values mark m (domain_of m q)) (held m q)) (drawn.cellwise q among.0) h.0 in
-      ap (λ x. index_of (linked_values mark m x) v) (sym among.1) ∙ (ap (index_of (linked_values mark m (domain_of m q))) (sym (same-equal (held m q) v h.1)) ∙ (sym e ∙ is))
+      let h = and_parts (is_pseudonym (cell_of cells q)) (values.same_value (content m q) v) hit in
+      let e = pseudonym-index (cell_of cells q) (mark q) (domain_of m q) q (content m q) (index_of (linked_values mark m (domain_of m q)) (content m q)) (drawn.cellwise q among.0) h.0 in
+      ap (λ x. index_of (linked_values mark m x) v) (sym among.1) ∙ (ap (index_of (linked_values mark m (domain_of m q))) (sym (same-equal (content m q) v h.1)) ∙ (sym e ∙ is))
 
   module _ (some : 1 ≤ d) (few : d < 16) (in_table : t < 4) (in_row : r < length (rows_of m t)) (in-column : c < length (columns_of m t)) (link : mark p ≡ Linked) where
-    other : (q : Place) → Found cells m v (InDomain m p d) None → Before m p q → (not (is_mark (mark q) Linked && eqb (domain_of m q) d) || not (values.same_value (held m q) v)) ≡ true
+    other : (q : Place) → Found cells m v (InDomain m p d) None → Before m p q → (not (is_mark (mark q) Linked && eqb (domain_of m q) d) || not (values.same_value (content m q) v)) ≡ true
     other q none b =
         ⊎_elim
         (λ (e : (is_mark (mark q) Linked && eqb (domain_of m q) d) ≡ true).
         let h = and_parts (is_mark (mark q) Linked) (eqb (domain_of m q) d) e in
         let f = eqb-true (domain_of m q) d h.1 in
-        let ps = linked-pseudonym (cell_of cells q) (mark q) (domain_of m q) q (held m q) (index_of (linked_values mark m (domain_of m q)) (held m q)) (drawn.cellwise q b) h.0 (subst (λ x. 1 ≤ x) (sym f) some) in
-        last (is_mark (mark q) Linked && eqb (domain_of m q) d) (is_pseudonym (cell_of cells q)) (values.same_value (held m q) v) ps (none q (b, f)))
-        (λ (e : (is_mark (mark q) Linked && eqb (domain_of m q) d) ≡ false). first (is_mark (mark q) Linked && eqb (domain_of m q) d) (values.same_value (held m q) v) e)
+        let ps = linked-pseudonym (cell_of cells q) (mark q) (domain_of m q) q (content m q) (index_of (linked_values mark m (domain_of m q)) (content m q)) (drawn.cellwise q b) h.0 (subst (λ x. 1 ≤ x) (sym f) some) in
+        last (is_mark (mark q) Linked && eqb (domain_of m q) d) (is_pseudonym (cell_of cells q)) (values.same_value (content m q) v) ps (none q (b, f)))
+        (λ (e : (is_mark (mark q) Linked && eqb (domain_of m q) d) ≡ false). first (is_mark (mark q) Linked && eqb (domain_of m q) d) (values.same_value (content m q) v) e)
         (cases_Bool (is_mark (mark q) Linked && eqb (domain_of m q) d))
       where
         last : (x y z : Bool) → y ≡ true → (y && z) ≡ false → (not x || not z) ≡ true
@@ -97,7 +97,7 @@ module _ (mark : Place → Mark) (m : Model) (t r c : ℕ) (cells : List Masked)
         ap (λ vs. index_of vs v) after.1
         ∙ (index-new (linked_among mark m d (places_before m p)) v after.0
         (linked-every mark m d (λ x. not (values.same_value x v)) (places_before m p)
-        (every-before m (λ q. not (is_mark (mark q) Linked && eqb (domain_of m q) d) || not (values.same_value (held m q) v)) t r c (omega arith) (λ q b. other q none b)))
+        (every-before m (λ q. not (is_mark (mark q) Linked && eqb (domain_of m q) d) || not (values.same_value (content m q) v)) t r c (omega arith) (λ q b. other q none b)))
         ∙ sym (drawn.counted d some few))
 
     pub index-known : (n : ℕ) → Indexed cells m v (InDomain m p d) (get_or numbers d 0) n → index_of (linked_values mark m d) v ≡ n
@@ -140,27 +140,27 @@ module _ (mark : Place → Mark) (m : Model) (cells : List Masked) (numbers : Li
       is_seen : masked_of x ≡ seen mark m (place_of t r c)
       is_seen =
           masks.is
-          ∙ masked_same (mark (place_of t r c)) (domain_of m (place_of t r c)) (place_of t r c) (held m (place_of t r c)) masks.index _
+          ∙ masked_same (mark (place_of t r c)) (domain_of m (place_of t r c)) (place_of t r c) (content m (place_of t r c)) masks.index _
           (λ link some. index-known mark m t r c cells numbers drawn some low in_table in_row in-column link masks.index (masks.indexed link some))
 
-      cell-at : (q : Place) → Before m (place_of t r (c + 1)) q → masked_of (cell_of (set cells (place t r c) x) q) ≡ seen mark m q
+      cell-at : (q : Place) → Before m (place_of t r (c + 1)) q → masked_of (cell_of (set cells (cell_index t r c) x) q) ≡ seen mark m q
       cell-at q b =
           let w = narrow q.table in
           let wt = narrow t in
           let n = few t in
           ⊎_elim
-          (λ (e : place q.table q.row q.column ≡ place t r c).
+          (λ (e : cell_index q.table q.row q.column ≡ cell_index t r c).
           let et : q.table ≡ t = let a = b.1 in let o = b.0 in omega arith in
           let er : q.row ≡ r = let a = b.1 in omega arith in
           let ec : q.column ≡ c = let a = b.1 in omega arith in
-          subst (λ q. masked_of (cell_of (set cells (place t r c) x) q) ≡ seen mark m q) (same_place q t r c et er ec)
-          (ap masked_of (get_or-set_same cells (place t r c) x _ (omega arith)) ∙ is_seen))
-          (λ (ne : place q.table q.row q.column ≢ place t r c).
-          ap masked_of (get_or-set_other cells (place t r c) (place q.table q.row q.column) x _ ne)
+          subst (λ q. masked_of (cell_of (set cells (cell_index t r c) x) q) ≡ seen mark m q) (same_place q t r c et er ec)
+          (ap masked_of (get_or-set_same cells (cell_index t r c) x _ (omega arith)) ∙ is_seen))
+          (λ (ne : cell_index q.table q.row q.column ≢ cell_index t r c).
+          ap masked_of (get_or-set_other cells (cell_index t r c) (cell_index q.table q.row q.column) x _ ne)
           ∙ drawn.cellwise q (b.0, b.1, step-cell (length (rows_of m q.table)) q.table q.column q.row t r c b.0 b.2 (λ (a, f, g). ne (omega arith))))
-          (cases_eq (place q.table q.row q.column) (place t r c))
+          (cases_eq (cell_index q.table q.row q.column) (cell_index t r c))
 
-      pub drawn-cell : (new : List ℕ) → Raised (mark (place_of t r c)) (domain_of m (place_of t r c)) numbers new → Drawn mark m (place_of t r (c + 1)) (set cells (place t r c) x) new
+      pub drawn-cell : (new : List ℕ) → Raised (mark (place_of t r c)) (domain_of m (place_of t r c)) numbers new → Drawn mark m (place_of t r (c + 1)) (set cells (cell_index t r c) x) new
       drawn-cell new raised = record {
         cellwise = cell-at;
         counted = λ d a b.
@@ -168,7 +168,7 @@ module _ (mark : Place → Mark) (m : Model) (cells : List Masked) (numbers : Li
             ∙ (ap (λ n. n + cond (is_mark (mark (place_of t r c)) Linked && eqb (domain_of m (place_of t r c)) d) 1 0) (drawn.counted d a b)
             ∙ (sym (linked-more mark m d (places_before m (place_of t r c)) (place_of t r c))
             ∙ ap (λ ps. length (linked_among mark m d ps)) (sym (before-cell m t r c))));
-        whole = length-set cells (place t r c) x ∙ drawn.whole;
+        whole = length-set cells (cell_index t r c) x ∙ drawn.whole;
         sixteen = raised.0 ∙ drawn.sixteen;
       }
 
@@ -278,7 +278,7 @@ module _ (b : Book) (mark : Place → Mark) (cells : List Masked) (numbers : Lis
       has-number k (domain_of (book_model b) (place_of t r c)) (place_of t r c) _ masks.index numbers x masks.is (domain_lt b t c)
       (drawn-number mark (book_model b) cells numbers t r c drawn (width-le b) (count-le b) in_table in_row in-column)
 
-  pub next-cell : (out : List Masked) (new : List ℕ) → k ≡ mark (place_of t r c) → new ≡ counted numbers x → out ≡ set cells (place t r c) x → Drawn mark (book_model b) (place_of t r (c + 1)) out new
+  pub next-cell : (out : List Masked) (new : List ℕ) → k ≡ mark (place_of t r c) → new ≡ counted numbers x → out ≡ set cells (cell_index t r c) x → Drawn mark (book_model b) (place_of t r (c + 1)) out new
   next-cell out new e count is =
       subst (λ out. Drawn mark (book_model b) (place_of t r (c + 1)) out new) (sym is)
       (drawn-cell mark (book_model b) cells numbers t r c drawn (width-le b) (count-le b) in_table in_row in-column x

@@ -13,7 +13,7 @@ use Rattle.semantics.specs.Books.{Model, columns_of, rows_of}
 use Rattle.semantics.specs.Lists.{every, tabled}
 use Rattle.semantics.specs.Marks.{is_mark}
 use Rattle.semantics.specs.Values.{Value}
-use Rattle.semantics.specs.Views.{Place, place_of, places, held, domain_of, linked_values}
+use Rattle.semantics.specs.Views.{Place, place_of, places, content, domain_of, linked_values}
 use Rattle.semantics.proofs.Drawing.{joined_counting_more, joined_counting_split, every_joined_counting, length_joined_counting, counting_split, every_counting}
 use Rattle.semantics.proofs.Every.{every_append, every_map}
 use Rattle.view.specs.Drawing.{row_places, table_places, places_before, Before, linked_among}
@@ -70,15 +70,15 @@ module _ (mark : Place → Mark) (m : Model) (d : ℕ) where
   abbrev linked : Place → Bool
   linked p = is_mark (mark p) Linked && eqb (domain_of m p) d
 
-  one : (b : Bool) (p : Place) → length (map (held m) (cond b (p ∷ []) [])) ≡ cond b 1 0
+  one : (b : Bool) (p : Place) → length (map (content m) (cond b (p ∷ []) [])) ≡ cond b 1 0
   one true p = refl
   one false p = refl
 
   pub linked-more : (ps : List Place) (p : Place) → length (linked_among mark m d (ps ++ p ∷ [])) ≡ length (linked_among mark m d ps) + cond (linked p) 1 0
   unfolding linked_among
   linked-more ps p =
-      rw (filter-append linked ps (p ∷ []), map-append (held m) (filter linked ps) (filter linked (p ∷ [])), length-append (map (held m) (filter linked ps)) (map (held m) (filter linked (p ∷ []))))
-      (ap (λ n. length (map (held m) (filter linked ps)) + n) (one (linked p) p))
+      rw (filter-append linked ps (p ∷ []), map-append (content m) (filter linked ps) (filter linked (p ∷ [])), length-append (map (content m) (filter linked ps)) (map (content m) (filter linked (p ∷ []))))
+      (ap (λ n. length (map (content m) (filter linked ps)) + n) (one (linked p) p))
 
   pub linked-none : length (linked_among mark m d []) ≡ 0
   unfolding linked_among
@@ -86,31 +86,31 @@ module _ (mark : Place → Mark) (m : Model) (d : ℕ) where
 
   pub linked-le : (ps : List Place) → length (linked_among mark m d ps) ≤ length ps
   unfolding linked_among
-  linked-le ps = rw (length-map (filter linked ps) (held m)) (kept-le ps)
+  linked-le ps = rw (length-map (filter linked ps) (content m)) (kept-le ps)
     where
       kept-le : (ps : List Place) → length (filter linked ps) ≤ length ps
       kept-le [] = omega arith
       kept-le (p ∷ ps) = let i = kept-le ps in cond_both (linked p) (p ∷ filter linked ps) (filter linked ps) (λ xs. length xs ≤ length (p ∷ ps)) (λ e. omega arith) (λ e. omega arith)
 
-  pub linked-split : (ps : List Place) (p : Place) (rest : List Place) → places m ≡ ps ++ p ∷ rest → linked p ≡ true → (vs : List Value) × (linked_values mark m d ≡ linked_among mark m d ps ++ held m p ∷ vs)
+  pub linked-split : (ps : List Place) (p : Place) (rest : List Place) → places m ≡ ps ++ p ∷ rest → linked p ≡ true → (vs : List Value) × (linked_values mark m d ≡ linked_among mark m d ps ++ content m p ∷ vs)
   unfolding linked_among
   linked-split ps p rest e l = (
-    map (held m) (filter linked rest),
-    ap (λ ps. map (held m) (filter linked ps)) e
-        ∙ rw (filter-append linked ps (p ∷ rest), l) (map-append (held m) (filter linked ps) (p ∷ filter linked rest)),
+    map (content m) (filter linked rest),
+    ap (λ ps. map (content m) (filter linked ps)) e
+        ∙ rw (filter-append linked ps (p ∷ rest), l) (map-append (content m) (filter linked ps) (p ∷ filter linked rest)),
   )
 
-  pub linked-every : (test : Value → Bool) (ps : List Place) → every (λ p. not (linked p) || test (held m p)) ps ≡ true → every test (linked_among mark m d ps) ≡ true
+  pub linked-every : (test : Value → Bool) (ps : List Place) → every (λ p. not (linked p) || test (content m p)) ps ≡ true → every test (linked_among mark m d ps) ≡ true
   unfolding linked_among
-  linked-every test ps h = every_map test (held m) (filter linked ps) ∙ kept ps h
+  linked-every test ps h = every_map test (content m) (filter linked ps) ∙ kept ps h
     where
-      kept : (ps : List Place) → every (λ p. not (linked p) || test (held m p)) ps ≡ true → every (λ p. test (held m p)) (filter linked ps) ≡ true
+      kept : (ps : List Place) → every (λ p. not (linked p) || test (content m p)) ps ≡ true → every (λ p. test (content m p)) (filter linked ps) ≡ true
       kept [] h = refl
       kept (p ∷ ps) h =
-          let i = and_parts (not (linked p) || test (held m p)) (every (λ p. not (linked p) || test (held m p)) ps) h in
+          let i = and_parts (not (linked p) || test (content m p)) (every (λ p. not (linked p) || test (content m p)) ps) h in
           let rest = kept ps i.1 in
           ⊎_elim
-          (λ (e : linked p ≡ true). rw e (and_from (test (held m p)) _ (passed (linked p) (test (held m p)) e i.0) rest))
+          (λ (e : linked p ≡ true). rw e (and_from (test (content m p)) _ (passed (linked p) (test (content m p)) e i.0) rest))
           (λ (e : linked p ≡ false). rw e rest)
           (cases_Bool (linked p))
         where

@@ -8,7 +8,7 @@ use Rattle.semantics.specs.Lists.{tabled}
 use Rattle.semantics.specs.Marks.{is_mark}
 use Rattle.semantics.specs.Policies.{Meaning}
 use Rattle.semantics.specs.Values.{Value, same_value}
-use Rattle.semantics.specs.Views.{Place, place_of, held, domain_of, marks, seen, masked}
+use Rattle.semantics.specs.Views.{Place, place_of, content, domain_of, marks, seen, masked}
 use Rattle.view.specs.declared.masked.Masked.{Masked}
 use Rattle.view.specs.declared.masked.Masked.TheVariants as code
 use Rattle.view.specs.Views.{masked_of, masked_at}
@@ -43,7 +43,7 @@ Before m p q =
 
 -- The values of the linked cells of a domain among some cells.
 unfoldable pub linked_among : (Place → Mark) → Model → ℕ → List Place → List Value
-linked_among mark m domain ps = map (held m) (filter (λ p. is_mark (mark p) Linked && domain_of m p == domain) ps)
+linked_among mark m domain ps = map (content m) (filter (λ p. is_mark (mark p) Linked && domain_of m p == domain) ps)
 
 -- Is the cell drawn as a pseudonym, and for this value? Its index, 0 where it has none.
 abbrev pub is_pseudonym : Masked → Bool
@@ -52,7 +52,7 @@ is_pseudonym (code.Variable t r c) = false
 is_pseudonym (code.Pseudonym d n) = true
 
 abbrev pub bears : List Masked → Model → Value → Place → Bool
-bears cells m v q = is_pseudonym (cell_of cells q) && same_value (held m q) v
+bears cells m v q = is_pseudonym (cell_of cells q) && same_value (content m q) v
 
 abbrev pub index_in : Masked → ℕ
 index_in (code.Value x) = 0
@@ -103,5 +103,5 @@ AllDrawn mark m cells =
 -- How a cell is masked: by its mark and domain, as a pseudonym with an index.
 pub record Masks (cells : List Masked) (m : Model) (mark : Mark) (p : Place) (next : ℕ) (x : Masked) : Type 0 where
   pub index : ℕ
-  pub is : masked_of x ≡ masked mark (domain_of m p) p (held m p) index
-  pub indexed : mark ≡ Linked → 1 ≤ domain_of m p → Indexed cells m (held m p) (InDomain m p (domain_of m p)) next index
+  pub is : masked_of x ≡ masked mark (domain_of m p) p (content m p) index
+  pub indexed : mark ≡ Linked → 1 ≤ domain_of m p → Indexed cells m (content m p) (InDomain m p (domain_of m p)) next index

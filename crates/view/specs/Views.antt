@@ -5,7 +5,7 @@ use Rattle.semantics.specs.Lists.{tabled}
 use Rattle.semantics.specs.Views as semantics
 use Rattle.cells.specs.declared.cell.Cell.TheVariants.{Number}
 use Rattle.cells.specs.Cells.{cell_value}
-use Rattle.book.specs.Layout.{place}
+use Rattle.book.specs.Layout.{cell_index}
 use Rattle.view.specs.declared.masked.Masked.{Masked}
 use Rattle.view.specs.declared.masked.Masked.TheVariants.{Value, Variable, Pseudonym}
 use Rattle.view.specs.declared.size.Size.{Size}
@@ -20,7 +20,7 @@ masked_of (Pseudonym d n) = semantics.pseudonym d n
 
 -- The cell of a table, a row and a column.
 abbrev pub masked_at : List Masked → ℕ → ℕ → ℕ → Masked
-masked_at cells t r c = slice_index_or cells (place t r c) (Value (Number 0))
+masked_at cells t r c = slice_index_or cells (cell_index t r c) (Value (Number 0))
 
 -- The row, the table and the four tables that stand in the cells.
 abbrev pub row_in : List Masked → ℕ → ℕ → ℕ → List semantics.Masked

@@ -1,5 +1,5 @@
 ghost use Rattle.std.specs.Prelude.{◌≡◌, ℕ, ◌+◌, ◌<◌, [], map, length, slice_index_or, slice_set};
-ghost use Rattle.book.specs.Layout.{place};
+ghost use Rattle.book.specs.Layout.{cell_index};
 ghost use Rattle.semantics.specs.Books.{columns_of, rows_of};
 ghost use Rattle.semantics.specs.Views.{Place, drawn, marks, place_of, view};
 ghost use Rattle.semantics.specs.declared.mark.Mark.{Mark};
@@ -25,7 +25,7 @@ use std::array;
 // names of its borrows, which are no plainer.
 fn put(cells: &mut [Masked; 8192], numbers: &mut [u16; 16], at: Position, masked: Masked)
     requires { HasNumber numbers.old masked }
-    ensures cell { cells.new ≡ slice_set cells.old (place at.slot.table at.slot.row at.column) masked }
+    ensures cell { cells.new ≡ slice_set cells.old (cell_index at.slot.table at.slot.row at.column) masked }
     ensures counted { numbers.new ≡ counted numbers.old masked }
 {
     cells[at.index()] = masked;

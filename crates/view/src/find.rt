@@ -1,6 +1,6 @@
 ghost use Rattle.std.specs.Prelude.{◌≡◌, ◌≤◌, length};
 ghost use Rattle.semantics.specs.Books.{column_at, columns_of};
-ghost use Rattle.semantics.specs.Views.{held};
+ghost use Rattle.semantics.specs.Views.{content};
 ghost use Rattle.cells.specs.Cells.{cell_value};
 ghost use Rattle.book.specs.Books.{book_model};
 ghost use Rattle.view.specs.Positions.{place_at};
@@ -12,7 +12,7 @@ use cells::Cell;
 
 /// The cell of a book at a position, the number 0 where there is none.
 pub(crate) fn cell_at(book: &Book<'_>, at: Position) -> Cell
-    ensures { cell_value result ≡ held (book_model book.now) (place_at at) }
+    ensures { cell_value result ≡ content (book_model book.now) (place_at at) }
 {
     let row = book.row(at.slot.table, at.slot.row).unwrap_or(&[]);
     row.get(at.column).copied().unwrap_or(Cell::ZERO)

@@ -1,5 +1,5 @@
 ghost use Rattle.std.specs.Prelude.{◌≡◌, ◌<◌};
-ghost use Rattle.book.specs.Layout.{place};
+ghost use Rattle.book.specs.Layout.{cell_index};
 
 use book::Slot;
 
@@ -28,7 +28,7 @@ impl Position {
 
     /// The number of the cell in memory.
     pub(crate) fn index(self) -> usize
-        ensures is { result ≡ place self.slot.table self.slot.row self.column }
+        ensures is { result ≡ cell_index self.slot.table self.slot.row self.column }
         ensures within { result < 8192 }
     {
         self.slot.start() + self.column

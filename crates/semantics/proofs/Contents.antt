@@ -13,7 +13,7 @@ use Rattle.semantics.specs.Orderly.{Orderly}
 use Rattle.semantics.specs.Standing.{HasCell}
 use Rattle.semantics.specs.Valuations.{is_value_of, is_proper}
 use Rattle.semantics.specs.Values.{Value, number, prefix, kind_of}
-use Rattle.semantics.specs.Views.{Place, place_of, row_of, held}
+use Rattle.semantics.specs.Views.{Place, place_of, row_of, content}
 use Rattle.semantics.proofs.Every.{every-at, every_slice_index_or, pairwise-at}
 use Rattle.semantics.proofs.Lawful.{rows_fit_lem}
 use Rattle.semantics.proofs.Member.{mem_joined, mem_slice_index_or}
@@ -35,27 +35,27 @@ module _ (m : Model) (good : Orderly m) where
   row_fits : (t r : ℕ) → r < length (rows_of m t) → fits (columns_of m t) (get_or (rows_of m t) r []) ≡ true
   row_fits t r h = every-at (fits (columns_of m t)) (rows_of m t) r [] h (rows_fit_lem m t good.rows_fit)
 
-  pub held-kind : (p : Place) → HasCell m p → same_kind (column_at (columns_of m p.table) p.column).kind (kind_of (held m p)) ≡ true
-  held-kind p h =
+  pub content-kind : (p : Place) → HasCell m p → same_kind (column_at (columns_of m p.table) p.column).kind (kind_of (content m p)) ≡ true
+  content-kind p h =
       pairwise-at (λ c v. same_kind c.kind (kind_of v)) (columns_of m p.table) (row_of m p) p.column (column_at [] 0) (number 0) refl
       (row_fits p.table p.row h.in_rows)
 
-  held-proper : (p : Place) → is_proper (held m p) ≡ true
-  held-proper p =
+  content-proper : (p : Place) → is_proper (content m p) ≡ true
+  content-proper p =
       every_slice_index_or is_proper (row_of m p) p.column (number 0) refl
       (every_slice_index_or (every is_proper) (rows_of m p.table) p.row [] refl
       (every_slice_index_or (every (every is_proper)) m.tables p.table [] refl good.values_proper))
 
-  pub held-value : (p : Place) → HasCell m p → is_value_of (column_at (columns_of m p.table) p.column).kind (held m p) ≡ true
-  held-value p h = value_of _ (held m p) (held-kind p h) (held-proper p)
+  pub content-value : (p : Place) → HasCell m p → is_value_of (column_at (columns_of m p.table) p.column).kind (content m p) ≡ true
+  content-value p h = value_of _ (content m p) (content-kind p h) (content-proper p)
 
   -- the rows are the values at their places
-  pub rows-held : m.tables ≡ tabled (λ t. tabled (λ r. tabled (λ c. held m (place_of t r c)) (length (columns_of m t))) (length (rows_of m t))) 4
-  rows-held =
-      fill_by_all (λ t. tabled (λ r. tabled (λ c. held m (place_of t r c)) (length (columns_of m t))) (length (rows_of m t))) m.tables 4 []
+  pub rows-content : m.tables ≡ tabled (λ t. tabled (λ r. tabled (λ c. content m (place_of t r c)) (length (columns_of m t))) (length (rows_of m t))) 4
+  rows-content =
+      fill_by_all (λ t. tabled (λ r. tabled (λ c. content m (place_of t r c)) (length (columns_of m t))) (length (rows_of m t))) m.tables 4 []
       (sym (pairwise_length (sound m.limit) m.columns m.tables good.rows_fit) ∙ good.four_tables) (λ t i.
-      fill_by_all (λ r. tabled (λ c. held m (place_of t r c)) (length (columns_of m t))) (rows_of m t) (length (rows_of m t)) [] refl (λ r j.
-      fill_by_all (λ c. held m (place_of t r c)) (get_or (rows_of m t) r []) (length (columns_of m t)) (number 0)
+      fill_by_all (λ r. tabled (λ c. content m (place_of t r c)) (length (columns_of m t))) (rows_of m t) (length (rows_of m t)) [] refl (λ r j.
+      fill_by_all (λ c. content m (place_of t r c)) (get_or (rows_of m t) r []) (length (columns_of m t)) (number 0)
       (sym (pairwise_length (λ c v. same_kind c.kind (kind_of v)) (columns_of m t) (get_or (rows_of m t) r []) (row_fits t r j))) (λ c k. refl)))
 
   -- the column of a cell is one of the columns
