@@ -4,6 +4,7 @@ use crate::times::Times;
 use answer::answer;
 use anyhow::Context;
 use book::Book;
+use drawing::draw;
 use policy::Policy;
 use query::{Plan, check, first_record};
 use std::alloc::{AllocError, Global};
@@ -65,7 +66,7 @@ pub(crate) fn draw_times<P: Policy>(
     view: &mut View,
 ) -> anyhow::Result<Times> {
     timed(rt, || {
-        view.draw(book, policy, 7);
+        draw(view, book, policy, 7);
         Ok(())
     })
 }
@@ -108,7 +109,7 @@ impl Bench<'_, '_> {
         let bytes = query.bytes();
         let plan = check(bytes, self.book).context("a query was refused")?;
         let mut view = View::new();
-        view.draw(self.book, policy, 7);
+        draw(&mut view, self.book, policy, 7);
         let reply = self.lent.answer(&view, &plan, bytes)?;
         let first = first_record(reply).context("a reply without records")?;
         let (certain, possible) = counts(first.body).context("a reply without counts")?;

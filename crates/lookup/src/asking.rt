@@ -8,6 +8,7 @@ ghost use Rattle.answer.specs.Answering.{Replies};
 
 use answer::answer;
 use book::Book;
+use drawing::draw;
 use policy::Policy;
 use query::check;
 use semantics::Refusal;
@@ -32,7 +33,7 @@ pub fn ask<P: Policy>(
     match check(query, book) {
         Ok(plan) => {
             let mut view = View::new();
-            view.draw(book, policy, broker);
+            draw(&mut view, book, policy, broker);
             answer(&view, &plan, query, work, reply)
         }
         Err(refusal) => {

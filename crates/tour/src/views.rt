@@ -4,6 +4,7 @@ use crate::show;
 use anyhow::Context;
 use book::{Book, Draft};
 use cells::Cell;
+use drawing::draw;
 use policy::Consents;
 use semantics::{Consent, Refusal};
 use std::array;
@@ -24,7 +25,7 @@ pub(crate) fn tariffs(rt: &HostRuntime, book: &Book<'_>) -> anyhow::Result<()> {
             "Broker 8 may see nothing. Each cell is a variable, ?table.row.column:",
         ),
     ] {
-        view.draw(book, &filters, broker);
+        draw(&mut view, book, &filters, broker);
         println!(rt; "{seen}")?;
         show::view(rt, "  row    prefix   carrier     price", &view, 0)?;
     }
@@ -67,7 +68,7 @@ pub(crate) fn offers(rt: &HostRuntime) -> anyhow::Result<()> {
     let mut book = draft.open(&mut memory);
     store(&mut book).context("an offer was refused")?;
     let mut view = View::new();
-    view.draw(&book, &consents, 7);
+    draw(&mut view, &book, &consents, 7);
     println!(rt;
         "Offers to customers 501, 502, 501 and 503. The first two let their offers be linked by a"
     )?;

@@ -1,6 +1,2 @@
 pub mod Memory
-pub mod Books
-pub mod Finding
-pub mod Order
-pub mod Drawing
 pub mod Same

@@ -1,5 +1,3 @@
 pub mod Sizes
 pub mod Views
 pub mod Positions
-pub mod Drawing
-pub mod Searching

@@ -1,5 +1,5 @@
 -- The view that a structure of the code stands for.
-use Rattle.std.specs.Prelude.{◌≡◌, ℕ, ◌<◌, ◌≤◌, List, [], map, length, Some, None, Option, slice_index_or}
+use Rattle.std.specs.Prelude.{◌≡◌, ℕ, ◌<◌, ◌≤◌, List, [], map, length, Some, None, Option, slice_index_or, slice_set}
 use Rattle.std.specs.Borrow.{Bor}
 use Rattle.semantics.specs.Lists.{tabled}
 use Rattle.semantics.specs.Views as semantics
@@ -21,6 +21,13 @@ masked_of (Pseudonym d n) = semantics.pseudonym d n
 -- The cell of a table, a row and a column.
 abbrev pub masked_at : List Masked → ℕ → ℕ → ℕ → Masked
 masked_at cells t r c = slice_index_or cells (cell_index t r c) (Value (Number 0))
+
+-- The same of a place, and what writing it makes of the cells.
+abbrev pub cell_of : List Masked → semantics.Place → Masked
+cell_of cells p = masked_at cells p.table p.row p.column
+
+abbrev pub CellPut : semantics.Place → Masked → List Masked → List Masked → Type 0
+CellPut p x old new = new ≡ slice_set old (cell_index p.table p.row p.column) x
 
 -- The row, the table and the four tables that stand in the cells.
 abbrev pub row_in : List Masked → ℕ → ℕ → ℕ → List semantics.Masked

@@ -1,17 +1,14 @@
-//! Views: what a broker sees of a book under a policy.
+//! Views: what a broker sees of a book. The cells of a view are drawn from outside, and read here.
 
 #![tactic(auto)]
 
-mod draw;
-mod find;
-mod mask;
 mod masked;
 mod position;
-mod read;
 mod size;
 #[cfg(test)]
 mod tests;
 mod view;
 
 pub use masked::{Masked, cell_at};
+pub use position::Position;
 pub use view::View;

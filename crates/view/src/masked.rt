@@ -18,16 +18,11 @@ pub enum Masked {
     Pseudonym { domain: u8, index: u16 },
 }
 
+const _: () = prove!(size_of::<Masked>() == 16);
+
 impl Masked {
     /// What a cell holds that no row uses: the number 0.
     pub const ZERO: Masked = Masked::Value(Cell::ZERO);
-
-    /// How many bytes a cell of a view takes.
-    pub fn size() -> usize
-        ensures { result ≡ 16 }
-    {
-        size_of::<Masked>()
-    }
 }
 
 /// The cell of a row in a column, the number 0 past the row's end.

@@ -5,17 +5,17 @@ use book::Slot;
 
 /// Where a cell of a book stands: in a column of a row, which has its slot in memory.
 #[derive(Clone, Copy, PartialEq, Eq, Debug)]
-pub(crate) struct Position {
-    pub(crate) slot: Slot,
-    pub(crate) column: usize,
-    ghost narrow: { column < 8 },
+pub struct Position {
+    pub slot: Slot,
+    pub column: usize,
+    pub ghost narrow: { column < 8 },
 }
 
 impl Position {
     ghost use Rattle.view.specs.Positions.{PositionOf};
 
     /// The position of a column of a row of a table; none where no memory has such a cell.
-    pub(crate) fn new(table: usize, row: usize, column: usize) -> Option<Position>
+    pub fn new(table: usize, row: usize, column: usize) -> Option<Position>
         ensures { PositionOf table row column result }
     {
         let slot = Slot::new(table, row)?;

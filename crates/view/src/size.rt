@@ -1,5 +1,5 @@
 /// How many rows and columns a table of a view has.
-#[derive(Clone, Copy, PartialEq, Eq, Debug)]
+#[derive(Clone, Copy)]
 pub(crate) struct Size {
     pub(crate) rows: usize,
     pub(crate) columns: usize,

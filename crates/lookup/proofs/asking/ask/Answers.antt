@@ -7,7 +7,7 @@ use Rattle.lookup.proofs.asking.ask.Goals as goal
 
 pub returns-in-Ok-clause-replies : goal.returns-in-Ok-clause-replies
 returns-in-Ok-clause-replies g c =
-    goes_on (book_model c.args.book.now).columns c.draw.new.self (view (g.P.Policy.meaning c.args.policy.now) c.args.broker (book_model c.args.book.now)) c.args.query.now c.in-Ok.plan
+    goes_on (book_model c.args.book.now).columns c.draw.new.view (view (g.P.Policy.meaning c.args.policy.now) c.args.broker (book_model c.args.book.now)) c.args.query.now c.in-Ok.plan
     c.draw.ensures.seen c.draw.ensures.wide c.type_inv.query c.check.ensures.exact c.in-Ok.ensures.plan
     (length c.args.work.now) c.args.reply.now c.answer.new.reply c.answer.result c.answer.ensures.replies
 

@@ -1,0 +1,4 @@
+pub mod Books
+pub mod Finding
+pub mod Order
+pub mod Drawing

@@ -1,0 +1,4 @@
+pub mod Drawing
+pub mod Searching
+pub mod Masking
+pub mod Scenes
