@@ -1,32 +1,26 @@
--- The cells of each column with their group, as they come into one list.
-use Rattle.std.proofs.Common.{◌≡◌, ◌≤◌, List, [], ◌++◌, map, length, Option, Result, IsOk, ap, ◌∙◌, arith}
+-- The cells of each column with their group, column by column.
+use Rattle.std.proofs.Common.{◌≡◌, ◌⊎◌, inl, inr, List, [], ◌∷◌, ◌++◌, map, length, sym, refl, ap, ◌∙◌, append-nil, arith}
 use Rattle.std.specs.List.{zip}
-use Rattle.std.proofs.lemmas.Iterator.{YieldsList}
-use Rattle.std.proofs.lemmas.List.{length-map}
-use Rattle.std.proofs.lemmas.Slice.Zip.{length-zip}
-use Rattle.bounded.specs.declared.bounded.Bounded.{Bounded}
-use Rattle.bounded.specs.declared.full.Full.{Full}
-use Rattle.bounded.specs.Bounded.{items}
-use Rattle.bounded.specs.Full.{Extended}
-use Rattle.bounded.proofs.Extending.{all_extended}
 use Rattle.semantics.specs.Views as semantics
 use Rattle.semantics.proofs.Member.{map_agree}
 use Rattle.view.specs.declared.masked.Masked.{Masked}
 use Rattle.view.specs.Views.{masked_of}
 use Rattle.rows.specs.declared.pairs.Pair.{Pair}
-use Rattle.rows.specs.Rows.{with_group, cells_and_group}
+use Rattle.rows.specs.Rows.{with_group, cells_and_group, paired}
 
--- there is room for all of them
-pub all_paired : (f g : semantics.Masked → semantics.Masked) → ((c : semantics.Masked) → f c ≡ g c) → (a b : List Masked) → length a ≤ 8
-    → {S : Type 0} {steps : S → Option Pair → S → Type 0} {more : S} (none all : Bounded Pair 8) (r : Result (Unit {0}) Full) → Extended steps more none r all → items none ≡ []
-    → YieldsList steps cells_and_group more (map (with_group f) (zip a b))
-    → IsOk r × (map cells_and_group (items all) ≡ map (with_group g) (zip a b))
-all_paired f g alike a b short none all r e n road =
-    let l = length-zip a b in
-    let m = length-map (zip a b) (with_group f) in
-    let z = ap length n in
-    let h = all_extended none all r e road (omega arith) in (
-      h.0,
-      h.1 ∙ ap (λ l. map cells_and_group l ++ map (with_group f) (zip a b)) n
-          ∙ map_agree (with_group f) (with_group g) (zip a b) (λ p m. ap (λ x. record { left = masked_of p.0; right = masked_of p.1; group = x }) (alike (masked_of p.0))),
-    )
+module _ (group : semantics.Masked → semantics.Masked) where
+  -- What has come, and the columns that are left, are all.
+  abbrev pub Pairing : List Pair → List Masked → List Masked → List Masked → List Masked → Type 0
+  Pairing pairs r s a b = map cells_and_group pairs ++ paired group r s ≡ paired group a b
+
+  -- no columns are left
+  pub all-paired : (g : semantics.Masked → semantics.Masked) → ((c : semantics.Masked) → group c ≡ g c) → (pairs : List Pair) (r s a b : List Masked)
+      → (length r ≡ 0) ⊎ (length s ≡ 0) → Pairing pairs r s a b → map cells_and_group pairs ≡ paired g a b
+  all-paired g alike pairs r s a b none h =
+      sym (append-nil (map cells_and_group pairs)) ∙ ap (λ l. map cells_and_group pairs ++ l) (sym (left r s none)) ∙ h
+      ∙ map_agree (with_group group) (with_group g) (zip a b) (λ p m. ap (λ x. record { left = masked_of p.0; right = masked_of p.1; group = x }) (alike (masked_of p.0)))
+    where
+      left : (r s : List Masked) → (length r ≡ 0) ⊎ (length s ≡ 0) → paired group r s ≡ []
+      left [] s none = refl
+      left (x ∷ r) [] none = refl
+      left (x ∷ r) (y ∷ s) none = absurd (elim none [ inl p ↦ omega arith | inr p ↦ omega arith ])

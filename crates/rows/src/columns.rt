@@ -1,8 +1,8 @@
 ghost use Rattle.std.specs.Prelude.{◌≡◌, ◌&&◌};
-ghost use Rattle.std.specs.List.{list_all, list_any, zip};
+ghost use Rattle.std.specs.List.{list_all, zip};
 ghost use Rattle.semantics.specs.Compatible.{differ};
 ghost use Rattle.view.specs.Views.{masked_of};
-ghost use Rattle.rows.specs.Rows.{is_value};
+ghost use Rattle.rows.specs.Rows.{is_value, some_apart};
 
 use view::Masked;
 
@@ -35,7 +35,7 @@ pub(crate) fn differ(a: &Masked, b: &Masked) -> bool
 
 /// Whether the two cells of some column differ.
 pub(crate) fn some_differ(a: &[Masked], b: &[Masked]) -> bool
-    ensures { result ≡ list_any (λ p. differ (masked_of p.0) (masked_of p.1)) (zip a.now b.now) }
+    ensures { result ≡ some_apart a.now b.now }
 {
     a.iter().zip(b).any(|(x, y)| differ(x, y))
 }

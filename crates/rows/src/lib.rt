@@ -1,14 +1,12 @@
-//! Rows of a view: whether two are identical, and whether two may be the same row.
+//! Rows of a view: whether two may be the same row.
 
 #![tactic(auto)]
 
+mod agree;
 mod columns;
 mod groups;
 mod pairs;
-mod same;
 #[cfg(test)]
 mod tests;
-mod unite;
 
-pub use groups::compatible;
-pub use same::{same_cell, same_row};
+pub use agree::compatible;

@@ -1,12 +1,12 @@
 ghost use Rattle.std.specs.Prelude.{◌≡◌, ◌≤◌, map, length};
-ghost use Rattle.std.specs.List.{list_all, zip};
+ghost use Rattle.std.specs.List.{list_all};
 ghost use Rattle.bounded.specs.Bounded.{items};
 ghost use Rattle.semantics.specs.Compatible.{group_of};
 ghost use Rattle.view.specs.Views.{masked_of};
-ghost use Rattle.rows.specs.Rows.{clash, agree, all_agree, cells_and_group, with_group};
+ghost use Rattle.rows.specs.Rows.{clash, agree, all_agree, cells_and_group, paired};
 
 use crate::columns::differ;
-use crate::unite::Groups;
+use crate::groups::Groups;
 use bounded::Bounded;
 use view::Masked;
 
@@ -48,7 +48,7 @@ impl Pair {
 /// The cells of each column of two rows, the first of at most 8 cells, with their group.
 pub(crate) fn pairs(a: &[Masked], b: &[Masked]) -> Bounded<Pair, 8>
     requires { length a.now ≤ 8 }
-    ensures { map cells_and_group (items result) ≡ map (with_group (group_of (map masked_of a.now) (map masked_of b.now))) (zip a.now b.now) }
+    ensures { map cells_and_group (items result) ≡ paired (group_of (map masked_of a.now) (map masked_of b.now)) a.now b.now }
 {
     let groups = Groups::of_columns(a, b);
     let mut pairs = Bounded::new(Pair {
@@ -56,15 +56,14 @@ pub(crate) fn pairs(a: &[Masked], b: &[Masked]) -> Bounded<Pair, 8>
         right: Masked::ZERO,
         group: Masked::ZERO,
     });
-    pairs
-        .extend_from(
-            a.iter().zip(b).map(|(x, y)| Pair {
-                left: *x,
-                right: *y,
-                group: *groups.of(x),
-            }),
-        )
-        .unwrap();
+    for (x, y) in a.iter().zip(b) {
+        let pair = Pair {
+            left: *x,
+            right: *y,
+            group: *groups.of(x),
+        };
+        pairs.push(pair).unwrap();
+    }
     pairs
 }
 

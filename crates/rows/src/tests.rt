@@ -1,5 +1,4 @@
-use crate::groups::compatible;
-use crate::same::{same_cell, same_row};
+use crate::agree::compatible;
 use cells::Cell;
 use view::Masked;
 
@@ -31,33 +30,16 @@ const O: Masked = Masked::Pseudonym {
     index: 0,
 };
 
-// As in other crates' tests: shorter than a crate that would share it.
 fn number(n: u32) -> Masked {
     Masked::Value(Cell::Number(n))
 }
 
 #[test]
-fn rows_that_cannot_be_the_same(rt: HostRuntime) {
-    assert!(rt; !compatible(&[V, V], &[number(1), number(2)]));
-    assert!(rt; !compatible(&[P, Q], &[number(47), number(47)]));
-    assert!(rt; !compatible(&[V, W, V], &[number(1), number(2), W]));
-    assert!(rt; !compatible(&[V, P], &[V, Q]));
-    assert!(rt; !compatible(&[V], &[V, V]));
-}
-
-#[test]
-fn rows_that_may_be_the_same(rt: HostRuntime) {
-    assert!(rt; compatible(&[V, V], &[number(1), number(1)]));
+fn rows_that_may_and_that_cannot_be_the_same(rt: HostRuntime) {
     assert!(rt; compatible(&[P, O], &[number(47), number(47)]));
+    assert!(rt; !compatible(&[P, Q], &[number(47), number(47)]));
     assert!(rt; compatible(&[V, W, V], &[number(1), number(1), W]));
+    assert!(rt; !compatible(&[V, W, V], &[number(1), number(2), W]));
     assert!(rt; compatible(&[number(1), number(2)], &[number(1), number(2)]));
-}
-
-#[test]
-fn identical_rows(rt: HostRuntime) {
-    assert!(rt; !same_cell(&V, &W));
-    assert!(rt; !same_cell(&P, &O));
-    assert!(rt; same_row(&[V, P, number(1)], &[V, P, number(1)]));
-    assert!(rt; !same_row(&[V, P], &[V, Q]));
-    assert!(rt; !same_row(&[V], &[V, V]));
+    assert!(rt; !compatible(&[V], &[V, V]));
 }

@@ -7,7 +7,7 @@ use Rattle.semantics.specs.Compatible.{united}
 use Rattle.view.specs.Views.{masked_of}
 use Rattle.rows.specs.Rows.{group_after}
 use Rattle.rows.proofs.Uniting.{after_one}
-use Rattle.rows.proofs.unite.Groups.of.Goals as goal
+use Rattle.rows.proofs.groups.Groups.of.Goals as goal
 
 pub returns : goal.returns
 returns c =

@@ -1,7 +1,7 @@
 use Rattle.std.proofs.Common.{◌+◌, ◌≤◌, length}
 use Rattle.bounded.specs.Bounded.{items}
 use Rattle.rows.proofs.Uniting.{Uniting}
-use Rattle.rows.proofs.unite.Groups.of_columns.Given as goal
+use Rattle.rows.proofs.groups.Groups.of_columns.Given as goal
 
 abbrev pub invariant-loop-x : goal.invariant-loop-x
 invariant-loop-x l = record {

@@ -2,7 +2,7 @@ use Rattle.std.proofs.Common.{inl, inr, length, ap, arith}
 use Rattle.bounded.specs.Bounded.{items}
 use Rattle.view.specs.declared.masked.Masked.{Masked}
 use Rattle.rows.proofs.Uniting.{unite-column, united-all}
-use Rattle.rows.proofs.unite.Groups.of_columns.Goals as goal
+use Rattle.rows.proofs.groups.Groups.of_columns.Goals as goal
 
 pub loop-x-preserved : goal.loop-x-preserved
 loop-x-preserved c =
