@@ -7,9 +7,9 @@ use Rattle.view.specs.Views.{masked_of}
 use Rattle.workspace.specs.declared.rows.Rows.{Rows}
 use Rattle.workspace.specs.Blocks.{block_rows}
 
--- What the cells behind a reference stand for.
-abbrev pub row_of : Bor (List Masked) → List semantics.Masked
-row_of cells = map masked_of cells.now
+-- The row that lent cells stand for.
+abbrev pub lent_row : Bor (List Masked) → List semantics.Masked
+lent_row cells = map masked_of cells.now
 
 -- The rows that are still to come.
 abbrev pub rows_left : Rows → List (List semantics.Masked)

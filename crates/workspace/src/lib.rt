@@ -4,7 +4,6 @@
 
 mod block;
 mod memory;
-mod read;
 mod rows;
 
 pub use block::Block;

@@ -1,13 +1,11 @@
 ghost use Rattle.std.specs.Prelude.{◌≡◌};
 ghost use Rattle.std.specs.Iterator.{YieldsFirstBy, item_count};
-ghost use Rattle.workspace.specs.Blocks.{block_rows};
-ghost use Rattle.workspace.specs.Rows.{row_of, rows_left};
+ghost use Rattle.workspace.specs.Rows.{lent_row, rows_left};
 
 use crate::block::Block;
 use std::iter::ExactSizeIterator;
 use view::Masked;
 
-// Beside `book::Walk`: its rows lie 32 cells apart, and what is left of a block is a block, which `len` and contracts name.
 /// Goes over the rows of a block, in their order.
 #[derive(Drop)]
 pub struct Rows<'w> {
@@ -15,19 +13,10 @@ pub struct Rows<'w> {
     pub(crate) left: Block,
 }
 
-impl Block {
-    /// The rows of the block.
-    pub fn rows<'w>(&self, work: &'w [Masked]) -> Rows<'w>
-        ensures { rows_left result ≡ block_rows work.now self.now }
-    {
-        Rows { work, left: *self }
-    }
-}
-
 impl<'w> Iterator for Rows<'w> {
     type Item = &'w [Masked];
 
-    ghost next_gives = { YieldsFirstBy row_of rows_left };
+    ghost next_gives = { YieldsFirstBy lent_row rows_left };
 
     ghost remaining = { item_count rows_left };
 
