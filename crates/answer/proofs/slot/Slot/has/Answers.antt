@@ -4,10 +4,10 @@ use Rattle.std.proofs.lemmas.Iterator.Consumers.{YieldsList-from_first}
 use Rattle.semantics.specs.Answers.{same_row}
 use Rattle.view.specs.Views.{masked_of}
 use Rattle.view.proofs.Same.{equal_rows}
-use Rattle.workspace.specs.Rows.{row_of, rows_left}
+use Rattle.workspace.specs.Rows.{lent_row, rows_left}
 use Rattle.answer.proofs.slot.Slot.has.Goals as goal
 
 pub returns : goal.returns
 returns c =
-    any_from_yields_List (same_row (map masked_of c.args.row.now)) c.any.new.self _ _ c.any.ensures.ran (YieldsList-from_first row_of rows_left _ c.rows.ensures)
+    any_from_yields_List (same_row (map masked_of c.args.row.now)) c.any.new.self _ _ c.any.ensures.ran (YieldsList-from_first lent_row rows_left _ c.rows.ensures)
     (λ x b q call. search (rules, equal_rows))
