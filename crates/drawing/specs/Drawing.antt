@@ -88,7 +88,8 @@ pub record Drawn (mark : Place → Mark) (m : Model) (p : Place) (cells : List M
 -- The whole view is drawn.
 abbrev pub AllDrawn : (Place → Mark) → Model → List Masked → Type 0
 AllDrawn mark m cells =
-    (t r c : ℕ) → t < 4 → r < length (rows_of m t) → c < length (columns_of m t) → masked_of (masked_at cells t r c) ≡ seen mark m (place_of t r c)
+    (t r c : ℕ) → t < 4 → r < length (rows_of m t) → c < length (columns_of m t)
+    → masked_of (masked_at cells t r c) ≡ seen mark m (place_of t r c)
 
 -- How a cell is masked: by its mark and domain, as a pseudonym with an index.
 pub record Masks (cells : List Masked) (m : Model) (mark : Mark) (p : Place) (next : ℕ) (x : Masked) : Type 0 where

@@ -17,8 +17,6 @@ use view::{Masked, Position, View};
 
 /// Writes the cell at a position, and counts it where it is a pseudonym: `numbers` has how many
 /// linked cells of each domain are drawn.
-// `view` and `numbers` stay two parameters: a struct that holds a `&mut` needs clauses on the
-// names of its borrows, which are no plainer.
 fn put(view: &mut View, numbers: &mut [u16; 16], at: Position, masked: Masked)
     requires { HasNumber numbers.old masked }
     ensures cell { CellPut (place_at at) masked view.old.cells view.new.cells }

@@ -1,10 +1,9 @@
 ghost use Rattle.std.specs.Prelude.{◌≡◌, length, replicate};
-ghost use Rattle.semantics.specs.Runs.{asking, outcome};
 ghost use Rattle.laws.specs.Runs.{Laws};
 ghost use Rattle.cells.specs.declared.cell.Cell.TheVariants.{Number};
 ghost use Rattle.book.specs.Books.{book_model};
 ghost use Rattle.view.specs.declared.masked.Masked.TheVariants.{Value};
-ghost use Rattle.answer.specs.Answering.{Replies};
+ghost use Rattle.lookup.specs.Asking.{AskReplies};
 
 use answer::answer;
 use book::Book;
@@ -26,7 +25,7 @@ pub fn ask<P: Policy>(
     work: &mut [Masked],
     reply: &mut [u8],
 ) -> Result<usize, Refusal>
-    ensures replies { Replies (outcome (P.Policy.meaning policy.now) (book_model book.now) (asking broker query.now (length work.old) (length reply.old))) reply.old reply.new result }
+    ensures replies { AskReplies (P.Policy.meaning policy.now) (book_model book.now) broker query.now work.old reply.old reply.new result }
     ensures cleared { work.new ≡ replicate (length work.old) (Value (Number 0)) }
     ensures keeps_the_laws { Laws (P.Policy.meaning policy.now) }
 {

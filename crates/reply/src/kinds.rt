@@ -19,7 +19,6 @@ pub enum CellKind {
     Pseudonym = 4,
 }
 
-// Of this crate's own: `query` has another for its kinds, and neither crate knows the other.
 /// Said of a number that no kind has.
 #[derive(Clone, Copy, PartialEq, Eq, Debug)]
 pub struct UnknownKind;

@@ -9,7 +9,6 @@ use semantics::Refusal;
 pub fn refusal_record(refusal: Refusal) -> [u8; 6]
     ensures { result ≡ refusal_bytes (refusal_number refusal) (refusal_place refusal) }
 {
-    // A function and no `From<Refusal> for [u8; 6]`: both types are those of other crates.
     let [low, high] = u16::from(RecordKind::Refusal).to_le_bytes();
     [2, 0, low, high, refusal.number(), refusal.place()]
 }

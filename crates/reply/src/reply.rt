@@ -36,7 +36,6 @@ pub fn write_reply(
 ) -> Option<usize>
     ensures { Written (reply_bytes (block_rows work.now certain) (block_rows work.now possible)) out.old out.new result }
 {
-    // The buffer is lent, as no memory is allocated here, and so the length stands for the reply.
     let mut size = Count(0);
     put_reply(&mut size, certain.rows(work), possible.rows(work));
     if size.0 > out.len() {

@@ -1,4 +1,3 @@
-use crate::kinds::{CellKind, RecordKind, UnknownKind};
 use crate::refusal::refusal_record;
 use crate::reply::write_reply;
 use cells::{Cell, Prefix};
@@ -13,7 +12,6 @@ const NONE: Block = Block {
     width: 0,
 };
 
-// The makers of cells are shorter than a crate of tests that would share them.
 fn number(n: u32) -> Masked {
     Masked::Value(Cell::Number(n))
 }
@@ -58,57 +56,10 @@ fn each_sort_of_cell(rt: HostRuntime) -> Result<(), Fail> {
     Ok(())
 }
 
-/// The rows (47, 1, 3100) and (variable 0.1.0, 2, 2750) at the rows 1 and 2 of a workspace.
-fn two_rows() -> Result<[Masked; 24], Refusal> {
-    let mut work = [number(0); 24];
-    work[8..11].copy_from_slice(&[prefix(b"47")?, number(1), number(3100)]);
-    let variable = Masked::Variable {
-        table: 0,
-        row: 1,
-        column: 0,
-    };
-    work[16..19].copy_from_slice(&[variable, number(2), number(2750)]);
-    Ok(work)
-}
-
-const ROWS: Block = Block {
-    first: 1,
-    count: 2,
-    width: 3,
-};
-
-#[test]
-fn two_possible_rows_fit_in_44_bytes(rt: HostRuntime) -> Result<(), Fail> {
-    let work = two_rows()?;
-    let mut out = [0xee; 44];
-    assert_eq!(rt; write_reply(&work, NONE, ROWS, &mut out), Some(44));
-    assert_eq!(rt;
-        out,
-        [
-            0x04, 0x00, 0x20, 0x00, 0x00, 0x00, 0x02, 0x00, 0x0e, 0x00, 0x22, 0x00, 0x02, 0x02,
-            0x34, 0x37, 0x01, 0x01, 0x00, 0x00, 0x00, 0x01, 0x1c, 0x0c, 0x00, 0x00, 0x0e, 0x00,
-            0x22, 0x00, 0x03, 0x00, 0x01, 0x00, 0x01, 0x02, 0x00, 0x00, 0x00, 0x01, 0xbe, 0x0a,
-            0x00, 0x00,
-        ]
-    );
-    let mut short = [0xee; 43];
-    assert_eq!(rt; write_reply(&work, NONE, ROWS, &mut short), None);
-    assert_eq!(rt; short, [0xee; 43]);
-    Ok(())
-}
-
 #[test]
 fn record_of_a_refusal(rt: HostRuntime) {
     assert_eq!(rt;
         refusal_record(Refusal::WrongForm(3)),
         [0x02, 0x00, 0x23, 0x00, 0x0f, 0x03]
     );
-}
-
-#[test]
-fn kinds_by_their_numbers(rt: HostRuntime) {
-    assert_eq!(rt; RecordKind::try_from(0x21), Ok(RecordKind::Certain));
-    assert_eq!(rt; RecordKind::try_from(0x24), Err(UnknownKind));
-    assert_eq!(rt; CellKind::try_from(4), Ok(CellKind::Pseudonym));
-    assert_eq!(rt; CellKind::try_from(0), Err(UnknownKind));
 }

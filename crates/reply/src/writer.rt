@@ -5,8 +5,6 @@ ghost use Rattle.std.proofs.lemmas.Grind.{common_steps};
 use crate::sink::Sink;
 
 /// Writes the bytes into a buffer, from its start on.
-// The buffer with `at` beside: `takes` speaks of what stands before `at`, and a writer that kept only what is left has no
-// field that holds it.
 #[derive(Drop)]
 pub(crate) struct Writer<'o> {
     pub(crate) out: &'o mut [u8],

@@ -52,4 +52,6 @@ width_in v t = (size_at v.sizes t).columns
 -- The cells of a row, or none where the table has no such row.
 abbrev pub RowSeen : List (List (List semantics.Masked)) → ℕ → ℕ → Option (Bor (List Masked)) → Type 0
 RowSeen tables t r None = length (slice_index_or tables t []) ≤ r
-RowSeen tables t r (Some cells) = (r < length (slice_index_or tables t [])) × (map masked_of cells.now ≡ slice_index_or (slice_index_or tables t []) r [])
+RowSeen tables t r (Some cells) =
+    (r < length (slice_index_or tables t []))
+    × (map masked_of cells.now ≡ slice_index_or (slice_index_or tables t []) r [])

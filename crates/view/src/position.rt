@@ -19,7 +19,6 @@ impl Position {
         ensures { PositionOf table row column result }
     {
         let slot = Slot::new(table, row)?;
-        // By an early return: a closure that makes a position would state its bound in a clause again.
         if column >= 8 {
             return None;
         }

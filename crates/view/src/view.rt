@@ -73,7 +73,6 @@ impl View {
     pub fn row(&self, table: usize, row: usize) -> Option<&[Masked]>
         ensures { RowSeen (view_tables self.now) table row result }
     {
-        // By an early return: what `then` lends would be said in a clause of its closure again.
         if row >= self.row_count(table) {
             return None;
         }
