@@ -1,7 +1,9 @@
 -- The book that a structure of the code stands for.
-use Rattle.std.specs.Prelude.{◌≡◌, ℕ, ◌<◌, ◌≤◌, List, [], map, length, Some, None, Option, slice_index_or}
+use Rattle.std.specs.Prelude.{◌≡◌, ℕ, ◌<◌, ◌≤◌, List, [], map, length, Some, None, Option, Result, slice_index_or}
 use Rattle.std.specs.Borrow.{Bor}
+use Rattle.semantics.specs.declared.refusal.Refusal.{Refusal}
 use Rattle.semantics.specs.Books.{Model, rows_of}
+use Rattle.semantics.specs.Outcomes.{Outcome, Steps, Kept}
 use Rattle.cells.specs.declared.cell.Cell.{Cell}
 use Rattle.cells.specs.Cells.{cell_value}
 use Rattle.book.specs.declared.book.Book.{Book}
@@ -19,6 +21,12 @@ book_model b = model_in (columns_in b.tables) b.rows.counts (memory b)
 -- Every cell of the memory that no row uses is the number 0.
 abbrev pub UnusedAreZero : Book → Type 0
 UnusedAreZero b = Clean (columns_in b.tables) b.rows.counts (memory b)
+
+-- A call answers `r` and takes a book to what the outcome says; on refusal the memory too is as it was.
+pub record Alters {T : Type 0} (r : Result T Refusal) (o : Outcome Model) (before after : Book) : Type 0 where
+  pub step : Steps r o (book_model before) (book_model after)
+  pub kept : Kept r (memory before) (memory after)
+  pub clean : UnusedAreZero after
 
 -- The cells of a row, or none where the table has no such row.
 abbrev pub RowAt : Model → ℕ → ℕ → Option (Bor (List Cell)) → Type 0

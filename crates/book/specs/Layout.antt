@@ -15,6 +15,10 @@ row_start t r = 32 * r + 8 * t
 abbrev pub cell_index : ℕ → ℕ → ℕ → ℕ
 cell_index t r c = row_start t r + c
 
+-- Where the next row of a table is to stand.
+abbrev pub next_start : List ℕ → ℕ → ℕ
+next_start counts t = row_start t (slice_index counts t)
+
 -- The cell of a table, a row and a column.
 abbrev pub cell_at : List Cell → ℕ → ℕ → ℕ → Cell
 cell_at cells t r c = slice_index_or cells (cell_index t r c) (Number 0)

@@ -4,11 +4,14 @@ ghost use Rattle.semantics.specs.Drafts.{agreed};
 ghost use Rattle.book.specs.Columns.{columns_in};
 ghost use Rattle.book.specs.Layout.{Clean, model_in};
 
+mod amend;
+mod read;
+mod store;
+mod strike;
+
 use crate::columns::Columns;
 use cells::Cell;
 
-// Counts and columns are not one `Table`: a draft hands its columns over as they are, and what
-// writes rows has no columns to keep.
 /// The rows of four tables in lent memory: how many each table has, and the cells.
 #[derive(Drop)]
 pub(crate) struct Rows<'a> {
@@ -26,6 +29,5 @@ pub struct Book<'a> {
     ghost counted: { length rows.counts ≡ 4 },
     ghost domains: { agreed (columns_in tables) ≡ true },
     ghost fitting: { lawful (model_in (columns_in tables) rows.counts rows.cells.now) ≡ true },
-    // Also a clause of each call that writes: the field is private, and no caller can cite it.
     ghost clean: { Clean (columns_in tables) rows.counts rows.cells.now },
 }

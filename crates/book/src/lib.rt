@@ -2,16 +2,10 @@
 
 #![tactic(auto)]
 
-mod amend;
 mod book;
 mod columns;
-mod declare;
 mod draft;
-mod open;
-mod read;
 mod slot;
-mod store;
-mod strike;
 mod walk;
 
 pub use book::Book;

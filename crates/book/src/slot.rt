@@ -32,7 +32,6 @@ impl Slot {
     pub fn new(table: usize, row: usize) -> Option<Slot>
         ensures { SlotOf table row result }
     {
-        // By an early return: a closure that makes a slot would state the bounds in a clause again.
         if table >= 4 || row >= 256 {
             return None;
         }
@@ -46,7 +45,6 @@ impl Slot {
         32 * self.row + 8 * self.table
     }
 
-    // Without a width: a slot has 8 cells, of any table, and a table takes of them what it has columns.
     /// Its 8 cells of a memory, or as many as the memory has.
     pub fn cells<T>(self, memory: &[T]) -> &[T]
         ensures { result.now ≡ take 8 (drop (row_start self.table self.row) memory.now) }

@@ -3,9 +3,7 @@
 #![tactic(auto)]
 
 mod bounded;
-mod equal;
 mod full;
-mod list;
 #[cfg(test)]
 mod tests;
 

@@ -22,13 +22,3 @@ fn three_places(rt: HostRuntime) -> Result<(), Fail> {
     assert!(rt; list == other);
     Ok(())
 }
-
-#[test]
-fn as_many_as_come(rt: HostRuntime) -> Result<(), Fail> {
-    let mut list: Bounded<u8, 3> = Bounded::new(0);
-    list.extend_from([4, 7].iter().copied())?;
-    assert_eq!(rt; list.as_slice(), [4, 7].as_slice());
-    assert_eq!(rt; list.extend_from([1, 2].iter().copied()), Err(Full));
-    assert_eq!(rt; list.as_slice(), [4, 7, 1].as_slice());
-    Ok(())
-}

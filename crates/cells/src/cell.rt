@@ -1,5 +1,5 @@
 ghost use Rattle.std.specs.Prelude.{◌≡◌};
-ghost use Rattle.semantics.specs.Values.{kind_of, same_value};
+ghost use Rattle.semantics.specs.Values.{kind_of};
 ghost use Rattle.cells.specs.Cells.{cell_value};
 
 use crate::prefix::Prefix;
@@ -13,16 +13,11 @@ pub enum Cell {
     Prefix(Prefix),
 }
 
+const _: () = prove!(size_of::<Cell>() == 12);
+
 impl Cell {
     /// What a cell holds that no row uses: the number 0.
     pub const ZERO: Cell = Cell::Number(0);
-
-    /// How many bytes a cell takes.
-    pub fn size() -> usize
-        ensures { result ≡ 12 }
-    {
-        size_of::<Cell>()
-    }
 
     /// The kind of column that the cell may stand in.
     pub fn kind(&self) -> Kind
@@ -32,14 +27,6 @@ impl Cell {
             Cell::Number(_) => Kind::Number,
             Cell::Prefix(_) => Kind::Prefix,
         }
-    }
-
-    /// Whether the cells hold the same value.
-    #[tactic(auto, using(crate::proofs::Same::equal_cells))]
-    pub fn same(&self, other: &Cell) -> bool
-        ensures { result ≡ same_value (cell_value self.now) (cell_value other.now) }
-    {
-        self == other
     }
 }
 

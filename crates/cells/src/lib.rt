@@ -3,9 +3,7 @@
 #![tactic(auto)]
 
 mod cell;
-mod digits;
 mod prefix;
 
 pub use cell::Cell;
-pub use digits::{all_digits, is_prefix};
-pub use prefix::Prefix;
+pub use prefix::{Prefix, is_prefix};

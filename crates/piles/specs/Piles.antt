@@ -1,9 +1,7 @@
 -- What policies that are put together mean.
 use Rattle.std.specs.Prelude.{ℕ, Some, None, Option, slice_get}
 use Rattle.semantics.specs.declared.mark.Mark.TheVariants.{Hidden}
-use Rattle.semantics.specs.Policies.{Meaning, both_mean, either_mean}
-use Rattle.policy.specs.Consents.{consents_meaning}
-use Rattle.policy.specs.Filters.{filters_meaning}
+use Rattle.semantics.specs.Policies.{Meaning, filters_mean, consents_mean, both_mean, either_mean}
 use Rattle.piles.specs.declared.parts.Parts.{Parts}
 use Rattle.piles.specs.declared.pile.Pile.{Pile, Filters, Register, Both', Either'}
 
@@ -14,10 +12,10 @@ meaning_of means (Some p) broker t row c = means p broker t row c
 
 -- The filters and the register of a number.
 abbrev pub filters_at : Parts → ℕ → Meaning
-filters_at parts n = meaning_of filters_meaning (slice_get parts.filters n)
+filters_at parts n = meaning_of filters_mean (slice_get parts.filters n)
 
 abbrev pub register_at : Parts → ℕ → Meaning
-register_at parts n = meaning_of consents_meaning (slice_get parts.registers n)
+register_at parts n = meaning_of consents_mean (slice_get parts.registers n)
 
 -- A pile means Both or Either of what its two piles mean.
 abbrev pub pile_means : Parts → Pile → Meaning

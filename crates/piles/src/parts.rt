@@ -1,7 +1,5 @@
 ghost use Rattle.std.specs.Prelude.{◌≡◌, [], map, replicate};
 ghost use Rattle.cells.specs.Cells.{cell_value};
-ghost use Rattle.policy.specs.Consents.{entries_of};
-ghost use Rattle.policy.specs.Filters.{rules_of};
 ghost use Rattle.piles.specs.Piles.{filters_at, register_at};
 
 use cells::Cell;
@@ -19,8 +17,8 @@ pub struct Parts {
 impl Parts {
     /// Filters without rules and registers without entries.
     pub fn new() -> Parts
-        ensures filters { map rules_of result.filters ≡ replicate 4 [] }
-        ensures registers { map entries_of result.registers ≡ replicate 4 [] }
+        ensures filters { result.filters ≡ replicate 4 [] }
+        ensures registers { result.registers ≡ replicate 4 [] }
     {
         Parts {
             filters: array::from_fn(|_| Filters::new()),

@@ -24,10 +24,6 @@ pushed_or {E} r e o P is h = subst P (sym is) (each r h)
 
 -- a push of `x` that answers `r` and leaves `new`
 module _ {T : Type 0} {N : ℕ} {E : Type 0} (b new : Bounded T N) (x : T) (r : Result (Unit {0}) E) (room : length (items b) < N → IsOk r × (items new ≡ items b ++ x ∷ [])) (full : length (items b) ≡ N → IsErr r × (new ≡ b)) where
-  -- what holds of the list after it, with room and without
-  pub after_push : {P : Type 0} → (items new ≡ items b ++ x ∷ [] → P) → (new ≡ b → P) → P
-  after_push some none = ⊎_elim (λ p. p) (λ p. p) (ways b (λ l. some (room l).1) (λ l. none (full l).1))
-
   -- what holds of the answer, with a refusal in the place of the error
   pub refused_push : (e : Refusal) (o : Result (Unit {0}) Refusal) (P : Result (Unit {0}) Refusal → Type 0) → o ≡ result_or r (Err e) → (length (items b) < N → items new ≡ items b ++ x ∷ [] → P (Ok tt)) → (length (items b) ≡ N → new ≡ b → P (Err e)) → P o
   refused_push e o P is some none = pushed_or r e o P is (ways b (λ l. let p = room l in (p.0, some l p.1)) (λ l. let p = full l in (p.0, none l p.1)))

@@ -1,39 +1,33 @@
 -- The entries of a register: finding one, and setting one.
-use Rattle.std.proofs.Common.{◌≡◌, ℕ, suc, ◌+◌, ◌<◌, ◌≤◌, Bool, true, false, cond, not, ◌&&◌, ◌||◌, eqb, List, [], ◌∷◌, ◌++◌, length, get_or, set, Some, None, Option, Err, Result, IsOk, IsErr, sym, refl, ap, ◌∙◌, ⊎_elim, arith}
-use mathlib.Core.HLevel.{is_prop→PathP}
-use Rattle.std.proofs.Math.Bool.{Bool-set}
+use Rattle.std.proofs.Common.{◌≡◌, ℕ, suc, ◌+◌, ◌<◌, ◌≤◌, ◌⊎◌, Bool, true, false, cond, not, ◌&&◌, ◌||◌, eqb, ltb, List, [], ◌∷◌, ◌++◌, length, get_or, set, Some, None, Option, Ok, Err, Result, sym, refl, ap, ◌∙◌, inl, inr, ⊎_elim, arith}
 use Rattle.std.specs.List.{find, position, position_from}
 use Rattle.std.proofs.lemmas.Iterator.Adapters.{position_from-zero}
 use Rattle.std.proofs.lemmas.Bool.{lt-ltb, le-ltb, ne_eqb, eqb-true, eqb-false, and_parts, and_from, cases_Bool, cond-true, cond-false, cond_both}
 use Rattle.std.proofs.lemmas.Bool.Decides.{nat_tests}
 use Rattle.semantics.specs.declared.mark.Mark.{Mark}
 use Rattle.semantics.specs.declared.mark.Mark.TheVariants.{Shown}
-use Rattle.semantics.specs.declared.refusal.Refusal.TheVariants.{RegisterFull}
-use Rattle.std.specs.Result.{result_or}
 use Rattle.semantics.specs.declared.refusal.Refusal.{Refusal}
-use Rattle.policy.proofs.Pushing.{refused_push}
-use Rattle.bounded.specs.Bounded.{items}
+use Rattle.semantics.specs.declared.refusal.Refusal.TheVariants.{RegisterFull}
 use Rattle.semantics.specs.declared.rule.Consent.{Consent}
-use Rattle.policy.specs.declared.consents.Consents.{Consents}
-use Rattle.semantics.specs.Outcomes.{done, refuse, Kept}
-use Rattle.semantics.specs.Policies.{number_at, is_number, consent_of, consent_mark, key_mark, consents_mean, replaced, is_known, keys_apart, consented, consented_mean, SameMeaning}
+use Rattle.semantics.specs.Outcomes.{done, refuse, question, Steps}
+use Rattle.semantics.specs.Policies.{number_at, is_number, consent_of, consent_mark, key_mark, consents_mean, replaced, is_known, keys_apart, consented, consented_mean, SameMeaning, Means}
 
--- the place of the entry of a key, counted from `n`
-abbrev place_from : ℕ → List Consent → ℕ → Option ℕ
-place_from n es key = position_from (λ e. eqb e.key key) n es
+-- the position of the entry of a key, counted from `n`
+abbrev position_after : ℕ → List Consent → ℕ → Option ℕ
+position_after n es key = position_from (λ e. eqb e.key key) n es
 
-abbrev place : List Consent → ℕ → Option ℕ
-place es key = position (λ e. eqb e.key key) es
+abbrev pub position_of : List Consent → ℕ → Option ℕ
+position_of es key = position (λ e. eqb e.key key) es
 
-place_is : (es : List Consent) (key : ℕ) → place es key ≡ place_from 0 es key
-place_is es key = position_from-zero (λ e. eqb e.key key) es
+position_is : (es : List Consent) (key : ℕ) → position_of es key ≡ position_after 0 es key
+position_is es key = position_from-zero (λ e. eqb e.key key) es
 
 -- `find` by a key
 pub found_is : (es : List Consent) (key : ℕ) → find (λ e. eqb e.key key) es ≡ consent_of es key
 found_is [] key = refl
 found_is (e ∷ es) key = ap (λ o. cond (eqb e.key key) (Some e) o) (found_is es key)
 
--- what is known of the place of a key's entry
+-- what is known of the position of a key's entry
 pub record FoundAt (es : List Consent) (key k : ℕ) : Type 0 where
   pub within : k < length es
   pub entry : (d : Consent) → consent_of es key ≡ Some (get_or es k d)
@@ -53,39 +47,39 @@ at-later x xs key k f rest = record {
   put = λ e h. cond-false _ (e ∷ xs) (x ∷ replaced xs e) (ap (eqb x.key) h ∙ f) ∙ ap (λ l. x ∷ l) (rest.put e h);
 }
 
-found_from : (n : ℕ) (es : List Consent) (key i : ℕ) → place_from n es key ≡ Some i → (k : ℕ) × (i ≡ n + k) × FoundAt es key k
+found_from : (n : ℕ) (es : List Consent) (key i : ℕ) → position_after n es key ≡ Some i → (k : ℕ) × (i ≡ n + k) × FoundAt es key k
 found_from n [] key i e = let z : ◌≡◌ {A = ℕ} 0 1 = cc in absurd (omega arith)
 found_from n (x ∷ xs) key i e =
     ⊎_elim
     (λ (t : eqb x.key key ≡ true).
-    let q : Some n ≡ Some i = sym (cond-true _ (Some n) (place_from (n + 1) xs key) t) ∙ e in
+    let q : Some n ≡ Some i = sym (cond-true _ (Some n) (position_after (n + 1) xs key) t) ∙ e in
     let r : n ≡ i = cc in
     (0, omega arith, at_first_lem x xs key t))
     (λ (f : eqb x.key key ≡ false).
-    let rest = found_from (n + 1) xs key i (sym (cond-false _ (Some n) (place_from (n + 1) xs key) f) ∙ e) in
+    let rest = found_from (n + 1) xs key i (sym (cond-false _ (Some n) (position_after (n + 1) xs key) f) ∙ e) in
     let r = rest.1 in
     (suc rest.0, omega arith, at-later x xs key rest.0 f rest.2))
     (cases_Bool (eqb x.key key))
 
-pub found_at : (es : List Consent) (key i : ℕ) → Some i ≡ place es key → FoundAt es key i
+pub found_at : (es : List Consent) (key i : ℕ) → Some i ≡ position_of es key → FoundAt es key i
 found_at es key i e =
-    let f = found_from 0 es key i (sym (e ∙ place_is es key)) in
+    let f = found_from 0 es key i (sym (e ∙ position_is es key)) in
     let r = f.1 in
     let same : i ≡ f.0 = omega arith in
     rw same f.2
 
-none_from : (n : ℕ) (es : List Consent) (key : ℕ) → place_from n es key ≡ None → consent_of es key ≡ None
+none_from : (n : ℕ) (es : List Consent) (key : ℕ) → position_after n es key ≡ None → consent_of es key ≡ None
 none_from n [] key e = refl
 none_from n (x ∷ xs) key e =
     ⊎_elim
     (λ (t : eqb x.key key ≡ true).
-    let q : Some n ≡ None = sym (cond-true _ (Some n) (place_from (n + 1) xs key) t) ∙ e in
+    let q : Some n ≡ None = sym (cond-true _ (Some n) (position_after (n + 1) xs key) t) ∙ e in
     let z : ◌≡◌ {A = ℕ} 0 1 = cc in absurd (omega arith))
-    (λ (f : eqb x.key key ≡ false). rw f (none_from (n + 1) xs key (sym (cond-false _ (Some n) (place_from (n + 1) xs key) f) ∙ e)))
+    (λ (f : eqb x.key key ≡ false). rw f (none_from (n + 1) xs key (sym (cond-false _ (Some n) (position_after (n + 1) xs key) f) ∙ e)))
     (cases_Bool (eqb x.key key))
 
-pub not_found : (es : List Consent) (key : ℕ) → None ≡ place es key → consent_of es key ≡ None
-not_found es key e = none_from 0 es key (sym (e ∙ place_is es key))
+pub not_found : (es : List Consent) (key : ℕ) → None ≡ position_of es key → consent_of es key ≡ None
+not_found es key e = none_from 0 es key (sym (e ∙ position_is es key))
 
 -- tests of keys, one inside another
 module _ {X : Type 0} (a b k : ℕ) (x y z : X) where
@@ -189,54 +183,52 @@ module _ (es new : List Consent) (e : Consent) (is : Set es new e) where
       ap (λ m. cond (eqb t 3) m Shown) (key-mark (number_at row 0) c)
       ∙ inside (eqb t 3) (is_number e.key (number_at row 0)) (consent_mark (Some e) c) (key_mark es (number_at row 0) c) Shown
 
-pub replaced-means : (es : List Consent) (e old : Consent) → consent_of es e.key ≡ Some old → SameMeaning (consents_mean (replaced es e)) (consented_mean es e)
+replaced-means : (es : List Consent) (e old : Consent) → consent_of es e.key ≡ Some old → SameMeaning (consents_mean (replaced es e)) (consented_mean es e)
 replaced-means es e old h = set-means es (replaced es e) e (replaced-set es e old h)
 
-pub pushed-means : (es : List Consent) (e : Consent) → consent_of es e.key ≡ None → SameMeaning (consents_mean (es ++ e ∷ [])) (consented_mean es e)
+pushed-means : (es : List Consent) (e : Consent) → consent_of es e.key ≡ None → SameMeaning (consents_mean (es ++ e ∷ [])) (consented_mean es e)
 pushed-means es e h = set-means es (es ++ e ∷ []) e (pushed-set es e h)
 
--- the entries with a known key's replaced
-module _ (es : List Consent) (e : Consent) (i : ℕ) (at : Some i ≡ place es e.key) where
-  known : consent_of es e.key ≡ Some (get_or es i e)
-  known = (found_at es e.key i at).entry e
+-- what a setting makes: the entry of a known key is replaced, or one of a new key added
+module _ (es new : List Consent) (e : Consent) where
+  ways_of : (o : Option Consent) (room : Bool) → cond (is_known o) (done (replaced es e)) (question room RegisterFull (done (es ++ e ∷ []))) ≡ done new → ((old : Consent) × (o ≡ Some old) × (new ≡ replaced es e)) ⊎ ((o ≡ None) × (new ≡ es ++ e ∷ []))
+  ways_of (Some old) room h = inl (old, refl, cc)
+  ways_of None true h = inr (refl, cc)
+  ways_of None false h = let z : ◌≡◌ {A = ℕ} 0 1 = cc in absurd (omega arith)
 
-  pub place-within : i < length es
-  place-within = (found_at es e.key i at).within
+  made : consented es e ≡ done new → ((old : Consent) × (consent_of es e.key ≡ Some old) × (new ≡ replaced es e)) ⊎ ((consent_of es e.key ≡ None) × (new ≡ es ++ e ∷ []))
+  made h = ways_of (consent_of es e.key) (ltb (length es) 64) h
 
-  written : set es i e ≡ replaced es e
-  written = sym ((found_at es e.key i at).put e refl)
+  -- the keys stay apart
+  pub stay_apart : {T : Type 0} (r : Result T Refusal) → Steps r (consented es e) es new → keys_apart es ≡ true → keys_apart new ≡ true
+  stay_apart (Ok x) h apart =
+      ⊎_elim
+      (λ (w : (old : Consent) × (consent_of es e.key ≡ Some old) × (new ≡ replaced es e)). rw w.2 (replaced-apart es e apart))
+      (λ (w : (consent_of es e.key ≡ None) × (new ≡ es ++ e ∷ [])). rw w.1 (pushed-apart es e w.0 apart))
+      (made h)
+  stay_apart (Err x) h apart = rw h.1 apart
 
-  pub replaces : consented es e ≡ done (set es i e)
-  replaces = rw (known, written)
+  -- the register means what the definition says
+  pub means_so : {T : Type 0} (r : Result T Refusal) → Steps r (consented es e) es new → Means r (consents_mean es) (consented_mean es e) (consents_mean new)
+  means_so (Ok x) h =
+      ⊎_elim
+      (λ (w : (old : Consent) × (consent_of es e.key ≡ Some old) × (new ≡ replaced es e)). rw w.2 (replaced-means es e w.0 w.1))
+      (λ (w : (consent_of es e.key ≡ None) × (new ≡ es ++ e ∷ [])). rw w.1 (pushed-means es e w.0))
+      (made h)
+  means_so (Err x) h = λ broker t row c. ap (λ es. consents_mean es broker t row c) h.1
 
-  pub replaces-apart : keys_apart es ≡ true → keys_apart (set es i e) ≡ true
-  replaces-apart h = rw written (replaced-apart es e h)
+-- the entry of a known key is written over
+pub set_known : (es new : List Consent) (e : Consent) (i : ℕ) → Some i ≡ position_of es e.key → (i < length es → new ≡ set es i e) → consented es e ≡ done new
+set_known es new e i at there =
+    let found = found_at es e.key i at in
+    let known = found.entry e in
+    let put = found.put e refl in
+    rw (known, put, there found.within) refl
 
-  pub replaces-means : SameMeaning (consents_mean (set es i e)) (consented_mean es e)
-  replaces-means = rw written (replaced-means es e (get_or es i e) known)
+-- an entry of a new key is pushed, where there is room
+module _ (es : List Consent) (e : Consent) (at : None ≡ position_of es e.key) where
+  pub set_new : length es < 64 → consented es e ≡ done (es ++ e ∷ [])
+  set_new h = rw (not_found es e.key at, lt-ltb (length es) 64 h)
 
--- the entries with one of a new key
-module _ (es : List Consent) (e : Consent) (at : None ≡ place es e.key) where
-  new : consent_of es e.key ≡ None
-  new = not_found es e.key at
-
-  pub no_room : 64 ≤ length es → consented es e ≡ refuse RegisterFull
-  no_room h = rw (new, le-ltb (length es) 64 h)
-
-  pub adds : length es < 64 → consented es e ≡ done (es ++ e ∷ [])
-  adds h = rw (new, lt-ltb (length es) 64 h)
-
-  pub adds-apart : keys_apart es ≡ true → keys_apart (es ++ e ∷ []) ≡ true
-  adds-apart h = pushed-apart es e new h
-
-  pub adds-means : SameMeaning (consents_mean (es ++ e ∷ [])) (consented_mean es e)
-  adds-means = pushed-means es e new
-
--- two registers with the same entries are one
-same_register : (a b : Consents) → a.entries ≡ b.entries → a ≡ b
-same_register a b e =
-    λ i. record { entries = e i; apart = is_prop→PathP (λ j. keys_apart (items (e j)) ≡ true) (λ j. Bool-set (keys_apart (items (e j))) true) a.apart b.apart i }
-
--- a register that has no room for one more is kept
-pub kept_register : {E : Type 0} (before after : Consents) (x : Consent) (r : Result (Unit {0}) E) → (length (items before.entries) < 64 → IsOk r × (items after.entries ≡ items before.entries ++ x ∷ [])) → (length (items before.entries) ≡ 64 → IsErr r × (after.entries ≡ before.entries)) → (e : Refusal) (o : Result (Unit {0}) Refusal) → o ≡ result_or r (Err e) → Kept o before after
-kept_register before after x r room full e o is = refused_push before.entries after.entries x r room full e o (λ o. Kept o before after) is (λ l p. tt) (λ l p. same_register after before p)
+  pub set_none : 64 ≤ length es → consented es e ≡ refuse RegisterFull
+  set_none h = rw (not_found es e.key at, le-ltb (length es) 64 h)

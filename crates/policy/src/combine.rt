@@ -19,8 +19,6 @@ pub struct Either<P, Q> {
     pub second: Q,
 }
 
-// Two impls that differ in one call: over a trait of the two joinings the types would still be
-// two, since their fields are public, and the trait would have a member and a law more.
 impl<P: Policy, Q: Policy> Policy for Both<P, Q> {
     ghost meaning = { λ s. both_mean (P.Policy.meaning s.first) (Q.Policy.meaning s.second) };
 

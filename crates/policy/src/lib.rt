@@ -3,9 +3,7 @@
 #![tactic(auto)]
 
 mod combine;
-mod consent;
 mod consents;
-mod filter;
 mod filters;
 mod number;
 mod policy;

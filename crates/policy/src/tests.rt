@@ -7,7 +7,7 @@ use semantics::{Consent, Mark, Refusal, Rule, Sign, Test};
 use std::array;
 use std::test::Fail;
 
-/// A rule from which those of the tests differ in some fields.
+/// Broker 7 may see column 0 of table 3.
 const ALLOW: Rule = Rule {
     broker: 7,
     table: 3,
@@ -16,14 +16,9 @@ const ALLOW: Rule = Rule {
     test: Test::Always,
 };
 
-/// The answer with the number of its refusal.
-fn numbered(answer: Result<(), Refusal>) -> Result<(), u8> {
-    answer.map_err(|refusal| refusal.number())
-}
-
-// A maker of one cell, shorter than a crate of tests that would share it.
-fn prefix() -> Result<Cell, Refusal> {
-    Ok(Cell::Prefix(Prefix::from_bytes(b"47")?))
+/// Holds where this column is the number 2.
+fn two_in(column: usize) -> Test {
+    Test::Holds { column, number: 2 }
 }
 
 /// Column 0 is shown, 1 linked, 2 both, 7 shown, and no other.
@@ -36,174 +31,97 @@ fn consent(key: u32) -> Consent {
 }
 
 #[test]
-fn filters_take_sixteen_rules(rt: HostRuntime) -> Result<(), Fail> {
+fn rules_are_questioned(rt: HostRuntime) -> Result<(), Fail> {
     let mut filters = Filters::new();
-    assert_eq!(rt; filters.rules().len(), 0);
-    for _ in 0..16 {
+    let no_table = Rule {
+        table: 4,
+        column: 8,
+        ..ALLOW
+    };
+    let no_column = Rule { column: 8, ..ALLOW };
+    let no_tested = Rule {
+        test: two_in(8),
+        ..ALLOW
+    };
+    assert_eq!(rt; filters.add(no_table), Err(Refusal::NoTable));
+    assert_eq!(rt; filters.add(no_column), Err(Refusal::NoColumn));
+    assert_eq!(rt; filters.add(no_tested), Err(Refusal::NoColumn));
+    for column in 0..8 {
+        let test = two_in(column);
+        filters.add(Rule {
+            column,
+            test,
+            ..ALLOW
+        })?;
         filters.add(ALLOW)?;
     }
-    assert_eq!(rt; numbered(filters.add(ALLOW)), Err(23));
     assert_eq!(rt; filters.rules().len(), 16);
+    assert_eq!(rt; filters.add(ALLOW), Err(Refusal::TooManyRules));
     Ok(())
 }
 
 #[test]
-fn rules_are_questioned(rt: HostRuntime) {
+fn a_prohibition_beats_an_allowance(rt: HostRuntime) -> Result<(), Fail> {
     let mut filters = Filters::new();
-    let far = Test::Holds {
-        column: 8,
-        number: 1,
-    };
-    assert_eq!(rt;
-        numbered(filters.add(Rule {
-            table: 4,
-            column: 8,
-            test: far,
-            ..ALLOW
-        })),
-        Err(1)
-    );
-    assert_eq!(rt; numbered(filters.add(Rule { column: 8, ..ALLOW })), Err(7));
-    assert_eq!(rt; numbered(filters.add(Rule { test: far, ..ALLOW })), Err(7));
-    assert_eq!(rt; filters.rules().len(), 0);
-    let last = Test::Holds {
-        column: 7,
-        number: 1,
-    };
-    assert_eq!(rt;
-        numbered(filters.add(Rule {
-            column: 7,
-            test: last,
-            ..ALLOW
-        })),
-        Ok(())
-    );
-}
-
-#[test]
-fn prohibit_beats_allow(rt: HostRuntime) -> Result<(), Fail> {
-    let mut filters = Filters::new();
+    let sign = Sign::Prohibit;
+    let test = two_in(1);
     filters.add(Rule {
-        table: 0,
-        sign: Sign::Prohibit,
-        test: Test::Holds {
-            column: 1,
-            number: 2,
-        },
+        sign,
+        test,
         ..ALLOW
     })?;
-    filters.add(Rule { table: 0, ..ALLOW })?;
-    let one = [prefix()?, Cell::Number(1)];
-    let two = [prefix()?, Cell::Number(2)];
-    let own = [
-        filters.mark(7, 0, &one, 0),
-        filters.mark(7, 0, &two, 0),
-        filters.mark(7, 0, &[], 0),
-    ];
-    assert_eq!(rt; own, [Mark::Shown, Mark::Hidden, Mark::Shown]);
+    filters.add(ALLOW)?;
+    let digits = Cell::Prefix(Prefix::from_bytes(b"2")?);
+    let seconds = [Cell::Number(1), Cell::Number(2), digits];
+    let marks = seconds.map(|second| filters.mark(7, 3, &[Cell::Number(2), second], 0));
+    assert_eq!(rt; marks, [Mark::Shown, Mark::Hidden, Mark::Shown]);
+    assert_eq!(rt; filters.mark(7, 3, &[], 0), Mark::Shown);
     let others = [
-        filters.mark(8, 0, &one, 0),
-        filters.mark(7, 1, &one, 0),
-        filters.mark(7, 0, &one, 1),
+        filters.mark(8, 3, &[], 0),
+        filters.mark(7, 2, &[], 0),
+        filters.mark(7, 3, &[], 1),
     ];
-    assert_eq!(rt;
-        others,
-        [Mark::Hidden; 3],
-        "another broker, table or column"
-    );
+    assert_eq!(rt; others, [Mark::Hidden; 3]);
     Ok(())
 }
 
 #[test]
-fn tests_want_a_number(rt: HostRuntime) -> Result<(), Fail> {
-    let mut filters = Filters::new();
-    filters.add(Rule {
-        table: 0,
-        test: Test::Holds {
-            column: 1,
-            number: 47,
-        },
-        ..ALLOW
-    })?;
-    assert_eq!(rt;
-        filters.mark(7, 0, &[Cell::Number(1), Cell::Number(47)], 0),
-        Mark::Shown
-    );
-    let other = filters.mark(7, 0, &[Cell::Number(47), Cell::Number(1)], 0);
-    let missing = filters.mark(7, 0, &[Cell::Number(47)], 0);
-    let digits = filters.mark(7, 0, &[Cell::Number(1), prefix()?], 0);
-    assert_eq!(rt; [other, missing, digits], [Mark::Hidden; 3]);
-    Ok(())
-}
-
-#[test]
-fn consents_take_sixty_four_keys(rt: HostRuntime) -> Result<(), Fail> {
+fn a_register_of_64_keys(rt: HostRuntime) -> Result<(), Fail> {
     let mut consents = Consents::new();
     for key in 0..64 {
         consents.set(consent(key))?;
     }
-    assert_eq!(rt; numbered(consents.set(consent(64))), Err(24));
+    assert_eq!(rt; consents.set(consent(64)), Err(Refusal::RegisterFull));
     consents.set(Consent {
         key: 5,
         shown: [false; 8],
         linked: [true; 8],
     })?;
-    let first = consents.mark(7, 3, &[Cell::Number(0)], 0);
-    let replaced = consents.mark(7, 3, &[Cell::Number(5)], 0);
-    let last = consents.mark(7, 3, &[Cell::Number(63)], 0);
-    let past = consents.mark(7, 3, &[Cell::Number(64)], 0);
-    assert_eq!(rt;
-        [first, replaced, last, past],
-        [Mark::Shown, Mark::Linked, Mark::Shown, Mark::Hidden]
-    );
     assert_eq!(rt; consents.entries().len(), 64);
+    let keys = [Cell::Number(0), Cell::Number(5), Cell::Number(63)];
+    let marks = keys.map(|key| consents.mark(7, 3, &[key], 0));
+    assert_eq!(rt; marks, [Mark::Shown, Mark::Linked, Mark::Shown]);
+    let digits = Cell::Prefix(Prefix::from_bytes(b"5")?);
+    let none = [
+        consents.mark(7, 3, &[Cell::Number(64)], 0),
+        consents.mark(7, 3, &[digits], 0),
+        consents.mark(7, 3, &[], 0),
+    ];
+    assert_eq!(rt; none, [Mark::Hidden; 3]);
+    let marks = [0, 1, 2, 3, 7, 8].map(|column| consents.mark(7, 3, &[Cell::Number(9)], column));
+    let (shown, hidden) = (Mark::Shown, Mark::Hidden);
+    assert_eq!(rt; marks, [shown, Mark::Linked, shown, hidden, shown, hidden]);
+    assert_eq!(rt; consents.mark(7, 2, &[], 8), Mark::Shown);
     Ok(())
 }
 
 #[test]
-fn consents_mark_table_three(rt: HostRuntime) -> Result<(), Fail> {
-    let mut consents = Consents::new();
-    consents.set(consent(9))?;
-    let row = [Cell::Number(9), Cell::Number(4)];
-    let marks: [Mark; 9] = array::from_fn(|column| consents.mark(7, 3, &row, column));
-    let none = Mark::Hidden;
-    assert_eq!(rt;
-        marks,
-        [
-            Mark::Shown,
-            Mark::Linked,
-            Mark::Shown,
-            none,
-            none,
-            none,
-            none,
-            Mark::Shown,
-            none,
-        ]
-    );
-    let unknown = consents.mark(7, 3, &[Cell::Number(4)], 0);
-    let digits = consents.mark(7, 3, &[prefix()?], 0);
-    let empty = consents.mark(7, 3, &[], 0);
-    assert_eq!(rt;
-        [unknown, digits, empty],
-        [none; 3],
-        "no entry, a prefix and no cell as the key"
-    );
-    assert_eq!(rt;
-        [consents.mark(7, 2, &[], 8), consents.mark(7, 4, &row, 3)],
-        [Mark::Shown; 2],
-        "other tables"
-    );
-    Ok(())
-}
-
-#[test]
-fn policies_stack(rt: HostRuntime) -> Result<(), Fail> {
-    let mut wide = Filters::new();
-    wide.add(ALLOW)?;
-    wide.add(Rule { column: 1, ..ALLOW })?;
+fn both_of_either(rt: HostRuntime) -> Result<(), Fail> {
     let mut narrow = Filters::new();
     narrow.add(Rule { column: 1, ..ALLOW })?;
+    let mut wide = Filters::new();
+    wide.add(Rule { column: 1, ..ALLOW })?;
+    wide.add(ALLOW)?;
     let mut consents = Consents::new();
     consents.set(consent(9))?;
     let stack = Both {
@@ -214,27 +132,11 @@ fn policies_stack(rt: HostRuntime) -> Result<(), Fail> {
         second: wide,
     };
     let known = [Cell::Number(9), Cell::Number(4), Cell::Number(4)];
-    let unknown = [Cell::Number(8), Cell::Number(4), Cell::Number(4)];
-    let shown = [stack.mark(7, 3, &known, 0), stack.mark(7, 3, &unknown, 1)];
-    assert_eq!(rt;
-        shown,
-        [Mark::Shown; 2],
-        "by consent and the wide rules, and by all rules"
-    );
-    let hidden = [
-        stack.mark(7, 3, &unknown, 0),
-        stack.mark(7, 3, &known, 2),
-        stack.mark(8, 3, &known, 0),
-    ];
-    assert_eq!(rt;
-        hidden,
-        [Mark::Hidden; 3],
-        "no consent, no rule, another broker"
-    );
-    assert_eq!(rt;
-        stack.first.mark(8, 3, &known, 1),
-        Mark::Linked,
-        "by consent, and by no rule"
-    );
+    let marks: [Mark; 3] = array::from_fn(|column| stack.mark(7, 3, &known, column));
+    assert_eq!(rt; marks, [Mark::Shown, Mark::Shown, Mark::Hidden]);
+    let marks: [Mark; 2] = array::from_fn(|column| stack.mark(7, 3, &[], column));
+    assert_eq!(rt; marks, [Mark::Hidden, Mark::Shown]);
+    assert_eq!(rt; stack.mark(8, 3, &known, 0), Mark::Hidden);
+    assert_eq!(rt; stack.first.mark(8, 3, &known, 1), Mark::Linked);
     Ok(())
 }

@@ -1,7 +1,6 @@
 ghost use Rattle.std.specs.Prelude.{◌≡◌};
 ghost use Rattle.semantics.specs.declared.kind.Kind.TheVariants.{Number, Prefix};
 ghost use Rattle.semantics.specs.Outcomes.{AnswersAs};
-ghost use Rattle.book.specs.Columns.{columns_in};
 ghost use Rattle.tariffs.specs.Columns.{declared_all, declared_up_to, tariff_tables, reader_tables};
 
 use book::Draft;
@@ -31,8 +30,8 @@ pub fn prefix(domain: u8) -> Column
 /// Declares columns at the end of a table, one after another up to the first that is refused: those
 /// before it stay.
 pub fn declare(draft: &mut Draft, table: usize, columns: &[Column]) -> Result<(), Refusal>
-    ensures answers { AnswersAs (λ _. columns_in draft.new.tables) result (declared_all (columns_in draft.old.tables) table columns.now) }
-    ensures columns { columns_in draft.new.tables ≡ declared_up_to (columns_in draft.old.tables) table columns.now }
+    ensures answers { AnswersAs (λ _. draft.new) result (declared_all draft.old table columns.now) }
+    ensures columns { draft.new ≡ declared_up_to draft.old table columns.now }
 {
     for column in columns {
         draft.declare(table, u8::from(column.kind), column.domain)?;
@@ -42,7 +41,7 @@ pub fn declare(draft: &mut Draft, table: usize, columns: &[Column]) -> Result<()
 
 /// Tariffs in table 0: a prefix in domain 1, the carrier's number and the price.
 pub fn tariff_columns() -> Draft
-    ensures { columns_in result.tables ≡ tariff_tables }
+    ensures { result ≡ tariff_tables }
 {
     let mut draft = Draft::new();
     declare(&mut draft, 0, &[prefix(1), number(0), number(0)]).unwrap();
@@ -51,7 +50,7 @@ pub fn tariff_columns() -> Draft
 
 /// The columns of most readers of queries: tariffs in table 0, and two numbers in table 1.
 pub fn reader_columns() -> Draft
-    ensures { columns_in result.tables ≡ reader_tables }
+    ensures { result ≡ reader_tables }
 {
     let mut draft = tariff_columns();
     declare(&mut draft, 1, &[number(0), number(0)]).unwrap();

@@ -1,6 +1,6 @@
 ghost use Rattle.std.specs.Prelude.{◌≡◌};
 ghost use Rattle.laws.specs.Sample.{filters};
-ghost use Rattle.policy.specs.Filters.{rules_of, filters_meaning};
+ghost use Rattle.semantics.specs.Policies.{filters_mean};
 ghost use Rattle.tariffs.specs.Rules.{broker_rule, broker_rules};
 
 use policy::Filters;
@@ -23,8 +23,8 @@ fn rule(column: usize, sign: Sign, test: Test) -> Rule
 /// worked examples.
 #[tactic(auto, using(crate::proofs::Adding::next_rule))]
 pub fn filters() -> Filters
-    ensures rules { rules_of result ≡ broker_rules }
-    ensures meaning { filters_meaning result ≡ filters }
+    ensures rules { result ≡ broker_rules }
+    ensures meaning { filters_mean result ≡ filters }
 {
     let carrier_two = Test::Holds {
         column: 1,

@@ -1,7 +1,6 @@
 use Rattle.std.proofs.Common.{◌≡◌, take}
-use Rattle.policy.specs.Filters.{rules_of}
 use Rattle.tariffs.specs.Rules.{broker_rules}
 use Rattle.tariffs.proofs.rules.filters.Given as goal
 
 abbrev pub invariant-loop-rule : goal.invariant-loop-rule
-invariant-loop-rule l = rules_of l.filters ≡ take l.rule-index broker_rules
+invariant-loop-rule l = l.filters ≡ take l.rule-index broker_rules

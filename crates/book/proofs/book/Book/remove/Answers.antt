@@ -4,7 +4,7 @@ use Rattle.book.proofs.Next.{strike_fits, strike_next}
 use Rattle.book.proofs.book.Book.remove.Goals as goal
 
 pub remove-requires : goal.remove-requires
-remove-requires c = let k = strike_fits c.args.self.now c.args.at.table c.args.at.row c.requires in (k.1, k.2)
+remove-requires c = let k = strike_fits c.args.self.now c.args.at.table c.args.at.row c.requires in record { there = k.1; few = k.2 }
 
 pub invariant_of-self : goal.invariant_of-self
 invariant_of-self c =

@@ -9,11 +9,12 @@ use Rattle.book.proofs.draft.Draft.empty.Goals as goal
 
 pub invariant_of-result : goal.invariant_of-result
 invariant_of-result c =
-    let S = columns_in c.args.self.tables in
+    let ts = c.self.inside.tables in
+    let S = columns_in ts in
     record {
-      four = c.args.self.four;
+      four = c.self.invariant.0;
       counted = refl;
-      domains = c.args.self.domains;
-      fitting = open_lawful S (length c.args.cells.now) (length-map c.args.self.tables items ∙ c.args.self.four);
+      domains = c.self.invariant.1;
+      fitting = open_lawful S (length c.args.cells.now) (length-map ts items ∙ c.self.invariant.0);
       clean = subst (Clean S (0 ∷ 0 ∷ 0 ∷ 0 ∷ [])) (sym c.requires) (clean_open S (0 ∷ 0 ∷ 0 ∷ 0 ∷ []) (length c.args.cells.now));
     }

@@ -53,7 +53,6 @@ impl Book<'_> {
     pub fn row(&self, table: usize, row: usize) -> Option<&[Cell]>
         ensures { RowAt (book_model self.now) table row result }
     {
-        // By an early return: what `then` lends would be said in a clause of its closure again.
         if row >= self.row_count(table) {
             return None;
         }

@@ -3,10 +3,10 @@ ghost use Rattle.std.proofs.Math.Seq.{paste};
 ghost use Rattle.semantics.specs.Books.{limit_of, fitting, may_store, stored};
 ghost use Rattle.semantics.specs.Kinds.{same_kind};
 ghost use Rattle.semantics.specs.Values.{kind_of};
-ghost use Rattle.semantics.specs.Outcomes.{Answers, Steps, Kept, done};
+ghost use Rattle.semantics.specs.Outcomes.{Answers, done};
 ghost use Rattle.cells.specs.Cells.{cell_value};
-ghost use Rattle.book.specs.Books.{book_model, memory, UnusedAreZero};
-ghost use Rattle.book.specs.Layout.{row_start};
+ghost use Rattle.book.specs.Books.{book_model, Alters};
+ghost use Rattle.book.specs.Layout.{next_start};
 
 use crate::book::{Book, Rows};
 use crate::slot::Slot;
@@ -28,7 +28,6 @@ fn fitting(columns: &[Column], row: &[Cell]) -> Result<(), Refusal>
     requires { length columns.now ≤ 8 }
     ensures { Answers result (fitting 0 columns.now (map cell_value row.now)) }
 {
-    // By a match: a place is the failure here, and `map_or` would read it as a success.
     match first_unfit(columns, row) {
         // `as` keeps the place, which is that of one of at most 8 columns.
         Some(place) => Err(Refusal::WrongKind(place as u8)),
@@ -41,7 +40,7 @@ impl Rows<'_> {
     fn push(&mut self, table: usize, row: &[Cell])
         requires { (table < 4) × ((slice_index self.old.counts table < limit_of (length self.old.cells.now)) × (length row.now ≤ 8)) }
         ensures counts { self.new.counts ≡ slice_set self.old.counts table (slice_index self.old.counts table + 1) }
-        ensures cells { self.new.cells.now ≡ paste self.old.cells.now (row_start table (slice_index self.old.counts table)) row.now (length row.now) }
+        ensures cells { self.new.cells.now ≡ paste self.old.cells.now (next_start self.old.counts table) row.now (length row.now) }
     {
         let last = self.counts[table];
         let start = Slot { table, row: last }.start();
@@ -61,7 +60,6 @@ impl Book<'_> {
             return Err(Refusal::WrongWidth);
         }
         fitting(columns.as_slice(), row)?;
-        // By index: `row_count` answers 0 for a table that is not there, and this one is.
         if self.rows.counts[table] >= self.row_limit() {
             return Err(Refusal::TableFull);
         }
@@ -77,11 +75,8 @@ impl Book<'_> {
     }
 
     /// Appends a row to a table.
-    // Two clauses and no word for both: the step is the definition's, what is kept is memory, which none speaks of.
     pub fn store(&mut self, table: usize, row: &[Cell]) -> Result<(), Refusal>
-        ensures step { Steps result (stored (book_model self.old) table (map cell_value row.now)) (book_model self.old) (book_model self.new) }
-        ensures kept { Kept result (memory self.old) (memory self.new) }
-        ensures clean { UnusedAreZero self.new }
+        ensures { Alters result (stored (book_model self.old) table (map cell_value row.now)) self.old self.new }
     {
         self.may_store(table, row)?;
         self.append(table, row);

@@ -1,6 +1,6 @@
 use Rattle.std.proofs.Common.{arith}
 use Rattle.book.proofs.Storing.{says_first}
-use Rattle.book.proofs.store.fitting.Goals as goal
+use Rattle.book.proofs.book.store.fitting.Goals as goal
 
 pub overflow_cast-result : goal.overflow_cast-result
 overflow_cast-result c = let first = says_first c.args.columns.now c.args.row.now _ c.in-Some.ensures in omega arith

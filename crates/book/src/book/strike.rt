@@ -1,7 +1,7 @@
 ghost use Rattle.std.specs.Prelude.{◌≡◌, ◌-◌, ◌<◌, ◌≤◌, IfOk, length, slice_index, slice_set};
 ghost use Rattle.semantics.specs.Books.{limit_of, may_strike, struck};
-ghost use Rattle.semantics.specs.Outcomes.{AnswersAs, Steps, Kept, done};
-ghost use Rattle.book.specs.Books.{book_model, memory, UnusedAreZero};
+ghost use Rattle.semantics.specs.Outcomes.{AnswersAs, done};
+ghost use Rattle.book.specs.Books.{book_model, Alters};
 ghost use Rattle.book.specs.Layout.{Removed};
 
 use crate::book::{Book, Rows};
@@ -12,13 +12,13 @@ use semantics::Refusal;
 impl Rows<'_> {
     /// Takes a row away: later rows of its table move up by one, and the last row's cells are cleared.
     fn remove(&mut self, at: Slot)
-        requires { (at.row < slice_index self.old.counts at.table) × (slice_index self.old.counts at.table ≤ limit_of (length self.old.cells.now)) }
+        requires there { at.row < slice_index self.old.counts at.table }
+        requires few { slice_index self.old.counts at.table ≤ limit_of (length self.old.cells.now) }
         ensures counts { self.new.counts ≡ slice_set self.old.counts at.table (slice_index self.old.counts at.table - 1) }
         ensures cells { Removed at.table at.row (slice_index self.old.counts at.table - 1) self.old.cells.now self.new.cells.now }
     {
         let Slot { table, row } = at;
         let last = self.counts[table] - 1;
-        // By its number: no method of the library moves parts that lie apart.
         for row in row..last {
             let start = Slot { table, row }.start();
             let next = Slot {
@@ -57,9 +57,7 @@ impl Book<'_> {
 
     /// Strikes a row; later rows of its table move up by one.
     pub fn strike(&mut self, table: usize, row: usize) -> Result<(), Refusal>
-        ensures step { Steps result (struck (book_model self.old) table row) (book_model self.old) (book_model self.new) }
-        ensures kept { Kept result (memory self.old) (memory self.new) }
-        ensures clean { UnusedAreZero self.new }
+        ensures { Alters result (struck (book_model self.old) table row) self.old self.new }
     {
         let at = self.may_strike(table, row)?;
         self.remove(at);

@@ -1,8 +1,8 @@
 ghost use Rattle.std.specs.Prelude.{◌≡◌, ◌<◌, IfOk, length, slice_set};
 ghost use Rattle.semantics.specs.Books.{limit_of, may_amend, amended};
-ghost use Rattle.semantics.specs.Outcomes.{AnswersAs, Steps, Kept, done};
+ghost use Rattle.semantics.specs.Outcomes.{AnswersAs, done};
 ghost use Rattle.cells.specs.Cells.{cell_value};
-ghost use Rattle.book.specs.Books.{book_model, memory, UnusedAreZero};
+ghost use Rattle.book.specs.Books.{book_model, Alters};
 ghost use Rattle.book.specs.Layout.{cell_index};
 
 use crate::book::{Book, Rows};
@@ -58,9 +58,7 @@ impl Book<'_> {
         column: usize,
         cell: Cell,
     ) -> Result<(), Refusal>
-        ensures step { Steps result (amended (book_model self.old) table row column (cell_value cell)) (book_model self.old) (book_model self.new) }
-        ensures kept { Kept result (memory self.old) (memory self.new) }
-        ensures clean { UnusedAreZero self.new }
+        ensures { Alters result (amended (book_model self.old) table row column (cell_value cell)) self.old self.new }
     {
         let at = self.may_amend(table, row, column, cell)?;
         self.replace(at, column, cell);
