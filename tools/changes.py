@@ -113,7 +113,7 @@ def measure(args):
         for phase in phases:
             crates[name][phase] = last.get(name, {}).get(phase, 0)
     used = resource.getrusage(resource.RUSAGE_CHILDREN)
-    seconds = {name: {phase: round(it[phase], 1) for phase in PHASES if it[phase]} for name, it in sorted(crates.items())}
+    seconds = {name: {phase: round(it[phase], 1) for phase in PHASES if it[phase]} for name, it in sorted(crates.items()) if it.total()}
     head = {'commit': git('rev-parse', '--short', 'HEAD').strip(), 'status': status, 'cores': os.cpu_count(),
             'minutes': round((time.time() - start) / 60, 1), 'cpu': round(used.ru_utime + used.ru_stime),
             'kept': sorted(kept), 'edits_kept': sorted(edits_kept),
@@ -147,7 +147,7 @@ def print_seconds(before, after):
             both = [it and it.get(phase, 0) for it in (old, new)]
             is_kept = phase != 'run' and name in after.get('kept', ()) or phase == 'edits' and name in after.get('edits_kept', ())
             cells.append(change(*both, ' =' if is_kept else '') if any(both) else '')
-        sums.append([it and sum(it.get(phase, 0) for phase in PHASES) for it in (old, new)])
+        sums.append([None if it is None else sum(it.get(phase, 0) for phase in PHASES) for it in (old, new)])
         print(f'| {name} | {" | ".join(cells)} | {change(*sums[-1])} |')
     print(f'| all | | | | | {change(*(sum(it or 0 for it in column) for column in zip(*sums)))} |\n')
     print('Processor seconds of the gate, before → after. A figure with = is the last one: the change does not make it prove again.')
