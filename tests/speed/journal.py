@@ -5,9 +5,9 @@
     python3 tests/speed/journal.py --names              the names of its asks, in order, one a line
     python3 tests/speed/journal.py --check < OUTCOMES   holds the replies against the counts below
 
-The rows and queries are those of crates/bench. Its marks by column are expressed by filters and
-consents, so linked cells are in table 3 alone. Where that makes another query of it, the comment
-beside the ask says so. Each ask has the certain and possible rows that it must have, and why.
+`tests/speed/compare OLD NEW` times it in two builds and holds the counts against these. Each ask has
+the certain and possible rows that it must have, and why. The marks are those of filters and consents,
+so linked cells are in table 3 alone.
 """
 
 import sys
@@ -105,8 +105,9 @@ COVERING = select(table(2), ("compare", COVERS, 0, "25512345"))
 
 DIFFERENCES = difference(*[table(t) for t in (0, 1, 3, 1, 3, 1, 3, 1)])
 
-# The rows of the benchmark. Tables 0 and 1 share the eight keys 1248 to 1255. The first cell of each
-# row of table 3 is 1, so one entry gives the marks of the whole table.
+# Tables 0, 1 and 3 have the numbers 1 to 6, a key and a last number in each row, table 2 has tariffs.
+# Tables 0 and 1 share the eight keys 1248 to 1255. The first cell of each row of table 3 is 1, so one
+# entry gives the marks of the whole table.
 BENCH = Book(
     columns=COLUMNS,
     tables=[numbers(1000, 1000), numbers(1248, 1248), TARIFFS, numbers(2000, 3000)],
@@ -166,10 +167,10 @@ BENCH = Book(
         Ask("differences, hidden", HALF, DIFFERENCES, 248, 8),
         # The 8 others are identical to the row of their key: none possible.
         Ask("differences, shown", SHOWN, DIFFERENCES, 248, 0),
-        # A variant: in table 3 even columns are linked and odd ones shown, and all of the other tables
+        # In table 3 even columns are linked and odd ones shown, and all of the other tables
         # is shown. Column 7 tells a row of table 0 from those of table 3; else as where all is shown.
         Ask("differences, linked in table 3", FIRST, DIFFERENCES, 248, 0),
-        # A variant that has linked cells in both parts, under the same marks: rows 0 to 127 of table 3
+        # Linked cells in both parts, under the same marks: rows 0 to 127 of table 3
         # less rows 120 to 255, four times, in 14 records. Column 7 is shown, so which rows these are is
         # certain. Different rows have different pseudonyms of one domain in column 6, so they are not
         # compatible. Rows 120 to 127 are identical to themselves: 120 certain, none possible.
@@ -209,7 +210,7 @@ KEYS = Book(
     tables=[numbers(1000, 1000), numbers(1248, 1248), TARIFFS, numbers(2000, 3000, lambda r: r % 64)],
     registers=[[consent(key) for key in range(64)], [(key, 0x01, 0) for key in range(64)]],
     asks=[
-        # Not in the benchmark: filters and consents combined, two policies of 16 rules and two registers
+        # Filters and consents combined, two policies of 16 rules and two registers
         # of 64 keys. The marks of table 3 are those of the first register, and column 0 is shown in
         # any case. Rows are told by r % 4, as keys are: in rows of 0 all is shown, of 1 columns 2, 4
         # and 6 are linked, of 2 all but column 0 are linked, of 3 all but column 0 are hidden.
@@ -232,7 +233,7 @@ KEYS = Book(
 
 
 def prefixes(t, last):
-    """256 rows of a key and seven prefixes of eight digits: as in the benchmark, but for column 0."""
+    """256 rows of a key and seven prefixes of eight digits."""
     rows = []
     for r in range(256):
         first = 10_000_000 + 8 * (256 * t + r)
@@ -240,8 +241,8 @@ def prefixes(t, last):
     return rows
 
 
-# The benchmark's second book has prefixes alone. A register goes by a number, so here column 0 is a
-# number, r % 64 in row r, of a domain of its own. In tables 0 and 1 column 7 holds what column 6 holds.
+# Prefixes, but for column 0: a register goes by a number, so it is r % 64 in row r, of a domain of its
+# own. In tables 0 and 1 column 7 holds what column 6 holds.
 PREFIXES = Book(
     columns=[[(NUMBER, 2)] + [(PREFIX, 1)] * 7] * 4,
     tables=[prefixes(t, last) for t, last in enumerate((6, 6, 7, 7))],

@@ -1,12 +1,11 @@
 -- A stack of truths, the top one first, and what a term of a condition makes of it.
-use Rattle.std.specs.Prelude.{◌≡◌, cond, List, [], ◌∷◌, map, reverse, length, nat_lt}
+use Rattle.std.specs.Prelude.{cond, List, [], ◌∷◌, map, reverse, length, nat_lt}
 use Rattle.bounded.specs.Bounded.{items}
 use Rattle.semantics.specs.Conditions.{Term, comparing, conjoining, disjoining, negating}
 use Rattle.semantics.specs.Truths as semantics
 use Rattle.semantics.specs.Truths.{unknown, both, either, opposite, comparison_truth}
 use Rattle.semantics.specs.Views.{Masked}
-use Rattle.compare.specs.declared.kleene.Truth.{Truth}
-use Rattle.compare.specs.declared.stack.Truths.{Truths}
+use Rattle.compare.specs.declared.truths.Truths.{Truths}
 use Rattle.compare.specs.Truths.{truth_of}
 
 -- The truths that a structure of the code stands for.

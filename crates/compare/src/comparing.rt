@@ -1,5 +1,5 @@
 ghost use Rattle.std.specs.Prelude.{◌≡◌};
-ghost use Rattle.semantics.specs.Truths.{apart, compare, itself};
+ghost use Rattle.semantics.specs.Truths.{compare};
 ghost use Rattle.semantics.specs.Views.{value};
 ghost use Rattle.view.specs.Views.{masked_of};
 ghost use Rattle.compare.specs.Plains.{plain_of};
@@ -9,28 +9,6 @@ use crate::kleene::Truth;
 use crate::plain::{Plain, plainly};
 use semantics::Operator;
 use view::Masked;
-
-/// A variable or pseudonym against itself.
-// Here and below a match: the operators are a closed enum, and each has its truth.
-fn itself(operator: Operator) -> Truth
-    ensures { truth_of result ≡ itself operator }
-{
-    match operator {
-        Operator::Equal | Operator::AtMost | Operator::Covers => Truth::Holds,
-        Operator::Unequal | Operator::Less | Operator::Shorter => Truth::Fails,
-    }
-}
-
-/// Different pseudonyms of one domain.
-fn apart(operator: Operator) -> Truth
-    ensures { truth_of result ≡ apart operator }
-{
-    match operator {
-        Operator::Equal => Truth::Fails,
-        Operator::Unequal => Truth::Holds,
-        _ => Truth::Unknown,
-    }
-}
 
 /// What is known of a comparison of a cell with a value.
 pub(crate) fn compare_with(operator: Operator, left: &Masked, right: Plain<'_>) -> Truth
@@ -47,12 +25,23 @@ pub(crate) fn compare_with(operator: Operator, left: &Masked, right: Plain<'_>) 
 pub fn compare(operator: Operator, left: &Masked, right: &Masked) -> Truth
     ensures { truth_of result ≡ compare operator (masked_of left.now) (masked_of right.now) }
 {
-    match (left, right) {
-        (_, Masked::Value(cell)) => compare_with(operator, left, Plain::from(cell)),
-        _ if left == right => itself(operator),
-        (Masked::Pseudonym { domain, .. }, Masked::Pseudonym { domain: d, .. }) if domain == d => {
-            apart(operator)
-        }
+    use Masked::{Pseudonym, Value, Variable};
+    use Operator::{AtMost, Covers, Equal, Less, Shorter, Unequal};
+
+    match (operator, left, right) {
+        (_, Value(a), Value(b)) => Truth::from(plainly(operator, Plain::from(a), Plain::from(b))),
+        (Equal | AtMost | Covers, Variable { .. }, Variable { .. }) if left == right =>
+            Truth::Holds,
+        (Unequal | Less | Shorter, Variable { .. }, Variable { .. }) if left == right =>
+            Truth::Fails,
+        (Equal | AtMost | Covers, Pseudonym { .. }, Pseudonym { .. }) if left == right =>
+            Truth::Holds,
+        (Unequal | Less | Shorter, Pseudonym { .. }, Pseudonym { .. }) if left == right =>
+            Truth::Fails,
+        (Equal, Pseudonym { domain, .. }, Pseudonym { domain: d, .. }) if domain == d =>
+            Truth::Fails,
+        (Unequal, Pseudonym { domain, .. }, Pseudonym { domain: d, .. }) if domain == d =>
+            Truth::Holds,
         _ => Truth::Unknown,
     }
 }

@@ -8,12 +8,11 @@ ghost use Rattle.view.specs.Views.{masked_of};
 ghost use Rattle.compare.specs.Truths.{truth_of};
 
 use crate::kleene::Truth;
-use crate::stack::Truths;
+use crate::truths::Truths;
 use query::Terms;
 use view::Masked;
 
 /// What is known of a condition, the body of a select, on a row.
-// Any bytes may come, so that they are a condition is a premise and no type.
 #[tactic(auto, using(crate::proofs::Walking::truth_on_top))]
 pub fn truth(condition: &[u8], row: &[Masked]) -> Truth
     ensures { (e : Refusal) (c : Condition) → condition_form e condition.now ≡ done c → truth_of result ≡ truth c (map masked_of row.now) }

@@ -6,10 +6,9 @@ mod comparing;
 mod condition;
 mod kleene;
 mod plain;
-mod stack;
-mod step;
 #[cfg(test)]
 mod tests;
+mod truths;
 
 pub use comparing::compare;
 pub use condition::truth;

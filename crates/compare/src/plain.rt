@@ -26,7 +26,6 @@ impl<'a> From<&'a Cell> for Plain<'a> {
 }
 
 /// Whether the first value is a number below the second.
-// No PartialOrd: the impl and its laws would be longer than this, and the definition has this word.
 fn below(left: Plain<'_>, right: Plain<'_>) -> bool
     ensures { result ≡ below (plain_of left.entry) (plain_of right.entry) }
 {
@@ -59,7 +58,6 @@ fn shorter(left: Plain<'_>, right: Plain<'_>) -> bool
 }
 
 /// The operators on two values.
-// A match: the operators are a closed enum, and each has its line.
 pub(crate) fn plainly(operator: Operator, left: Plain<'_>, right: Plain<'_>) -> bool
     ensures { result ≡ plainly operator (plain_of left.entry) (plain_of right.entry) }
 {

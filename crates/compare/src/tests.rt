@@ -6,7 +6,6 @@ use semantics::{Operator, Refusal};
 use std::test::Fail;
 use view::Masked;
 
-// Makers of cells as in other crates' tests: shorter than a crate that would share them.
 fn prefix(digits: &[u8]) -> Result<Masked, Refusal> {
     Ok(Masked::Value(Cell::Prefix(Prefix::from_bytes(digits)?)))
 }

@@ -19,7 +19,7 @@ unless_refused before (done x) next = next x
 -- The columns of all tables, once these are declared in table `t` up to the first that is refused.
 abbrev pub declared_up_to : List (List Column) → ℕ → List Column → List (List Column)
 declared_up_to tables t [] = tables
-declared_up_to tables t (c ∷ cs) = unless_refused tables (declared tables t (kind_number c.kind) c.domain) (λ next. declared_up_to next t cs)
+declared_up_to tables t (c ∷ cs) = unless_refused tables (declared tables t (kind_number c.kind) c.domain) (λ ts. declared_up_to ts t cs)
 
 -- A column of numbers and one of prefixes, in a domain.
 abbrev pub number_column : ℕ → Column

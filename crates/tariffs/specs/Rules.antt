@@ -12,4 +12,6 @@ broker_rule column sign test = record { broker = 7; table = 0; column = column; 
 
 -- Broker 7 may see columns 0 to 2, but not column 0 where column 1 holds 2.
 abbrev pub broker_rules : List Rule
-broker_rules = broker_rule 0 Allow Always ∷ broker_rule 1 Allow Always ∷ broker_rule 2 Allow Always ∷ broker_rule 0 Prohibit (Holds 1 2) ∷ []
+broker_rules =
+    broker_rule 0 Allow Always ∷ broker_rule 1 Allow Always ∷ broker_rule 2 Allow Always
+    ∷ broker_rule 0 Prohibit (Holds 1 2) ∷ []

@@ -1,30 +1,28 @@
 ghost use Rattle.std.specs.Prelude.{◌≡◌};
-ghost use Rattle.semantics.specs.declared.kind.Kind.TheVariants.{Number, Prefix};
 ghost use Rattle.semantics.specs.Outcomes.{AnswersAs};
-ghost use Rattle.tariffs.specs.Columns.{declared_all, declared_up_to, tariff_tables, reader_tables};
+ghost use Rattle.tariffs.specs.Columns.{declared_all, declared_up_to, number_column, prefix_column, tariff_tables, reader_tables};
 
 use book::Draft;
 use semantics::{Column, Kind, Refusal};
 
-/// A column of this kind, in a domain.
-fn column(kind: Kind, domain: u8) -> Column
-    ensures { result ≡ record { kind = kind; domain = domain } }
-{
-    Column { kind, domain }
-}
-
 /// A column of numbers in a domain, 0 for none.
 pub fn number(domain: u8) -> Column
-    ensures { result ≡ record { kind = Number; domain = domain } }
+    ensures { result ≡ number_column domain }
 {
-    column(Kind::Number, domain)
+    Column {
+        kind: Kind::Number,
+        domain,
+    }
 }
 
 /// A column of prefixes in a domain, 0 for none.
 pub fn prefix(domain: u8) -> Column
-    ensures { result ≡ record { kind = Prefix; domain = domain } }
+    ensures { result ≡ prefix_column domain }
 {
-    column(Kind::Prefix, domain)
+    Column {
+        kind: Kind::Prefix,
+        domain,
+    }
 }
 
 /// Declares columns at the end of a table, one after another up to the first that is refused: those
@@ -40,7 +38,7 @@ pub fn declare(draft: &mut Draft, table: usize, columns: &[Column]) -> Result<()
 }
 
 /// Tariffs in table 0: a prefix in domain 1, the carrier's number and the price.
-pub fn tariff_columns() -> Draft
+pub(crate) fn tariff_columns() -> Draft
     ensures { result ≡ tariff_tables }
 {
     let mut draft = Draft::new();

@@ -4,7 +4,6 @@
 #![tactic(auto)]
 
 mod columns;
-mod digits;
 mod hexadecimal;
 mod loading;
 mod replies;
@@ -13,10 +12,9 @@ mod rules;
 #[cfg(test)]
 mod tests;
 
-pub use columns::{declare, number, prefix, reader_columns, tariff_columns};
-pub use digits::last_digit;
+pub use columns::{declare, number, prefix, reader_columns};
 pub use hexadecimal::from_hex;
 pub use loading::three_tariffs;
 pub use replies::{counts, written};
-pub use rows::{THREE_TARIFFS, store, tariff};
+pub use rows::{THREE_TARIFFS, store};
 pub use rules::filters;

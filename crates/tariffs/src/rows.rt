@@ -1,16 +1,13 @@
 ghost use Rattle.std.specs.Prelude.{map};
-ghost use Rattle.semantics.specs.Books.{stored};
-ghost use Rattle.semantics.specs.Outcomes.{AnswersAs, Steps, Kept, and_then};
+ghost use Rattle.semantics.specs.Outcomes.{AnswersAs, Steps, Kept};
 ghost use Rattle.cells.specs.Cells.{cell_value};
 ghost use Rattle.book.specs.Books.{book_model, memory};
-ghost use Rattle.tariffs.specs.Tariffs.{tariff_row};
+ghost use Rattle.tariffs.specs.Tariffs.{tariff_row, tariff_stored};
 
 use book::Book;
 use cells::{Cell, Prefix};
 use semantics::Refusal;
 
-// Three words and no struct of a tariff: they are the cells of its row in their order, and a struct would name them again
-// wherever they are written down.
 /// The tariffs of the programs: the digits of each, its carrier and its price.
 pub const THREE_TARIFFS: [(&str, u32, u32); 3] = [
     ("47", 1, 3100),
@@ -19,7 +16,7 @@ pub const THREE_TARIFFS: [(&str, u32, u32); 3] = [
 ];
 
 /// The row of a tariff: its prefix, the carrier and the price.
-pub fn tariff(digits: &[u8], carrier: u32, price: u32) -> Result<[Cell; 3], Refusal>
+fn tariff(digits: &[u8], carrier: u32, price: u32) -> Result<[Cell; 3], Refusal>
     ensures { AnswersAs (map cell_value) result (tariff_row digits.now carrier price) }
 {
     let prefix = Prefix::from_bytes(digits)?;
@@ -38,7 +35,7 @@ pub fn store(
     carrier: u32,
     price: u32,
 ) -> Result<(), Refusal>
-    ensures step { Steps result (and_then (tariff_row digits.now carrier price) (stored (book_model book.old) table)) (book_model book.old) (book_model book.new) }
+    ensures step { Steps result (tariff_stored (book_model book.old) table digits.now carrier price) (book_model book.old) (book_model book.new) }
     ensures kept { Kept result (memory book.old) (memory book.new) }
 {
     let row = tariff(digits, carrier, price)?;

@@ -3,7 +3,7 @@
 use book::Book;
 use cells::{Cell, Prefix};
 use semantics::Refusal;
-use tariffs::{THREE_TARIFFS, last_digit, store};
+use tariffs::{THREE_TARIFFS, store};
 
 /// Stores an exchange into table 2.
 fn exchange(book: &mut Book<'_>, left: u32, right: u32, digits: &[u8]) -> Result<(), Refusal> {
@@ -48,7 +48,6 @@ const REPEATS: [(&str, u32, u32); 6] = [
     ("4711", 1, 2900),
 ];
 
-// Beside a like loop in `tour`: in a library its contract would say the rows once more.
 /// Stores tariffs into a table.
 fn store_all(
     book: &mut Book<'_>,
@@ -103,11 +102,15 @@ pub(crate) fn short(book: &mut Book<'_>) -> Result<(), Refusal> {
     offers(book)
 }
 
+/// The last decimal digit of a number, as its character.
+fn last_digit(number: u32) -> u8 {
+    b'0' + u8::try_from(number % 10).unwrap()
+}
+
 /// Fills the tall book: no row in table 0, one in table 1, and 256 rows in tables 2 and 3.
 pub(crate) fn tall(book: &mut Book<'_>) -> Result<(), Refusal> {
     store(book, 1, b"4711", 5, 6)?;
     for row in 0..256 {
-        // Digit by digit: `format!` with leading zeros wants a heap, and a proof that three are written.
         let hundreds = last_digit(row / 100);
         let tens = last_digit(row / 10);
         let ones = last_digit(row);

@@ -1,12 +1,9 @@
 ghost use Rattle.std.specs.Prelude.{◌≡◌, [], map};
-ghost use Rattle.std.specs.List.{flat_map};
-ghost use Rattle.semantics.specs.Conditions.{term_bytes};
 ghost use Rattle.semantics.specs.Records.{table_record, project_record, product_record, union_record, difference_record};
-ghost use Rattle.query.specs.declared.kind.RecordKind.TheVariants.{Select};
 ghost use Rattle.query.specs.RecordKinds.{record_kind_number};
 ghost use Rattle.query.specs.Terms.{term_of};
 ghost use Rattle.writing.specs.Queries.{query_bytes};
-ghost use Rattle.writing.specs.Writing.{Appends, Writes};
+ghost use Rattle.writing.specs.Writing.{Appends, Selects, Writes};
 
 use crate::condition::condition;
 use crate::error::WriteError;
@@ -54,7 +51,7 @@ impl Query {
     /// Appends: the rows of the relation before it for which the conditions, parts first, hold.
     #[tactic(auto, using(crate::proofs::Selecting::refused))]
     pub fn select(&mut self, conditions: &[Term<'_>]) -> Result<(), WriteError>
-        ensures { Appends (record_kind_number Select) (flat_map term_bytes (map term_of conditions.now)) (query_bytes self.old) result (query_bytes self.new) }
+        ensures { Selects (map term_of conditions.now) (query_bytes self.old) result (query_bytes self.new) }
     {
         let mut body = Vec::new(*self.bytes.allocator());
         for term in conditions {

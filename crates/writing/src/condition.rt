@@ -33,7 +33,6 @@ fn with_prefix(
 }
 
 /// Appends a condition record.
-// A match, as each case has a body of its own form: a method for kind and parts would give bytes of every length.
 pub(crate) fn condition(bytes: &mut Vec<u8>, term: Term<'_>) -> Result<(), WriteError>
     ensures { Appends (term_number (term_of term.entry)) (term_body (term_of term.entry)) bytes.old.items result bytes.new.items }
 {

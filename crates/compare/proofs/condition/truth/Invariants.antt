@@ -7,4 +7,6 @@ use Rattle.compare.proofs.condition.truth.Given as goal
 
 -- the terms that are left take the stack to where all of them take the empty one
 abbrev pub invariant-loop-term : goal.invariant-loop-term
-invariant-loop-term l = after (map masked_of l.row) (stack_of l.truths) (terms_left l.term-iterator) ≡ after (map masked_of l.row) [] (terms_in l.condition)
+invariant-loop-term l =
+    let row = map masked_of l.row in
+    after row (stack_of l.truths) (terms_left l.term-iterator) ≡ after row [] (terms_in l.condition)

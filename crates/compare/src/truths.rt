@@ -7,10 +7,15 @@ ghost use Rattle.compare.specs.Truths.{truth_of};
 use crate::comparing::{compare, compare_with};
 use crate::kleene::Truth;
 use crate::plain::Plain;
-use crate::stack::Truths;
 use bounded::Bounded;
 use query::Term;
 use view::{Masked, cell_at};
+
+/// The truths that the records of a condition have left so far, at most 15, the last on top.
+#[derive(Clone, Copy)]
+pub(crate) struct Truths {
+    pub(crate) list: Bounded<Truth, 15>,
+}
 
 impl Truths {
     /// No truths.
