@@ -48,7 +48,6 @@ const REPEATS: [(&str, u32, u32); 6] = [
     ("4711", 1, 2900),
 ];
 
-// Beside a like loop in `tour`: in a library its contract would say the rows once more.
 /// Stores tariffs into a table.
 fn store_all(
     book: &mut Book<'_>,
@@ -107,7 +106,7 @@ pub(crate) fn short(book: &mut Book<'_>) -> Result<(), Refusal> {
 pub(crate) fn tall(book: &mut Book<'_>) -> Result<(), Refusal> {
     store(book, 1, b"4711", 5, 6)?;
     for row in 0..256 {
-        // Digit by digit: `format!` with leading zeros wants a heap, and a proof that three are written.
+        // three digits of the row number, leading zeros too
         let hundreds = last_digit(row / 100);
         let tens = last_digit(row / 10);
         let ones = last_digit(row);
