@@ -111,6 +111,7 @@ fn last_digit(number: u32) -> u8 {
 pub(crate) fn tall(book: &mut Book<'_>) -> Result<(), Refusal> {
     store(book, 1, b"4711", 5, 6)?;
     for row in 0..256 {
+        // three digits of the row number, leading zeros too
         let hundreds = last_digit(row / 100);
         let tens = last_digit(row / 10);
         let ones = last_digit(row);
