@@ -10,3 +10,4 @@ pub mod Settling
 pub mod Limits
 pub mod Finding
 pub mod Replying
+mod Noting

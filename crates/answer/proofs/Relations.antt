@@ -13,7 +13,7 @@ use Rattle.semantics.specs.Queries.{Tree, table, select, project, product, union
 use Rattle.semantics.specs.Truths.{truth}
 use Rattle.semantics.specs.Views.{Masked}
 use Rattle.semantics.proofs.Every.{every-at}
-use Rattle.semantics.proofs.Held.{pairwise_length}
+use Rattle.semantics.proofs.Contents.{pairwise_length}
 use Rattle.semantics.proofs.Member.{mem_slice_index_or, mem_tabled_back}
 use Rattle.semantics.proofs.Pieces.{every-apart}
 use Rattle.semantics.proofs.Repeats.{low-shorter}
