@@ -1,5 +1,5 @@
 -- The answer of a relation is noted once those of its parts have been found.
-use Rattle.std.proofs.Common.{◌≡◌, ℕ, ◌+◌, ◌*◌, ◌<◌, ◌≤◌, true, List, [], length, get_or, set, Some, None, Option, sym, refl, ap, ap₂, ◌∙◌, subst, arith}
+use Rattle.std.proofs.Common.{◌≡◌, ℕ, ◌+◌, ◌*◌, ◌<◌, ◌≤◌, List, [], length, get_or, Some, None, Option, sym, refl, ap, ap₂, ◌∙◌, subst, arith}
 use Rattle.std.proofs.lemmas.List.{length-map, length-append}
 use Rattle.std.specs.Borrow.{Bor}
 use Rattle.semantics.specs.declared.kind.Column.{Column}
@@ -16,51 +16,19 @@ use Rattle.query.specs.declared.operation.Operation.{Operation}
 use Rattle.query.specs.declared.operation.Operation.TheVariants.{Table, Select, Project, Product, Union, Difference}
 use Rattle.query.specs.Operations.{relation, OperationOf}
 use Rattle.query.specs.Plans.{Plans}
-use Rattle.view.specs.declared.masked.Masked.{Masked}
-use Rattle.view.specs.declared.view.View.{View}
 use Rattle.view.specs.Views.{view_tables, width_in}
 use Rattle.workspace.specs.declared.block.Block.{Block}
-use Rattle.workspace.specs.Blocks.{block_rows}
 use Rattle.answer.specs.declared.bound.Bound.{Bound}
 use Rattle.answer.specs.declared.memo.Memo.{Memo}
 use Rattle.answer.specs.declared.task.Task.{Task}
 use Rattle.answer.specs.Bounds.{answer_of, other, selected, projected, united, subtracted, slot}
-use Rattle.answer.specs.Memos.{Over, Held, Grown, Settled, Found, TooLong, Sound}
-use Rattle.answer.specs.Notes.{rows_in, noted, Turned, Outside, Lies, Notes, OtherOfTable, Answers}
-use Rattle.answer.specs.Places.{Apart, Makes}
-use Rattle.answer.specs.Slots.{Beside}
-use Rattle.answer.proofs.Making.{Stands, stands, still_stands}
+use Rattle.answer.specs.Memos.{Over, Held, Grown, Settled, Found}
+use Rattle.answer.specs.Notes.{rows_in, noted, Lies, Notes, OtherOfTable, Answers}
+use Rattle.answer.specs.Places.{Makes}
+use Rattle.answer.proofs.Standing.{Stands, stands, still_stands}
 use Rattle.answer.proofs.Relations.{answer-table, answer-select, answer-project, answer-product, answer-union, answer-difference, product_narrow, union-fitted, relation-proper}
 use Rattle.answer.proofs.Settling.{settle, too_long}
-use Rattle.answer.proofs.Slots.{slot-low, slots-other, slots_apart, block_room}
-
--- what stands in the slot of another record's answer is outside the slot of this one
-pub outside_other : {bound b : Bound} {i j : ℕ} {old mid now : Memo} {x : Block} → Lies b j old mid (Some x) → now.slot.limit ≡ old.slot.limit → (j ≡ i → ⊥) → j < 15 → Outside now bound i x
-outside_other {bound} {b} {i} {j} {old} {mid} {now} {x} lies e apart low =
-    let begins : x.first ≡ slot b j * now.slot.limit = lies.within.0 ∙ ap (λ n. slot b j * n) (sym e) in
-    let few : x.count ≤ now.slot.limit = omega (arith, lies.within.1) in
-    record {
-      apart = slots_apart now.slot.limit (slot b j) (slot bound i) x (slots-other b bound j i apart) begins few;
-      within = block_room now.slot.limit (slot b j) now.few (slot-low b j low) (length now.slot.work.now) x now.room begins few;
-      few = few;
-    }
-
--- a lower one, say
-pub outside : {bound b : Bound} {i j : ℕ} {old mid now : Memo} {x : Block} → Lies b j old mid (Some x) → now.slot.limit ≡ old.slot.limit → j < i → i < 15 → Outside now bound i x
-outside {bound} {b} {i} {j} lies e h low = outside_other lies e (λ (same : j ≡ i). omega arith) (omega arith)
-
--- and what stands in those of two
-pub both-outside : {bound b b' : Bound} {i j k : ℕ} {old mid last : Memo} {x y : Block} → Lies b j old mid (Some x) → Lies b' k mid last (Some y) → (j < i) × (k < i) → i < 15
-    → Outside last bound i x × Outside last bound i y
-both-outside one two lower low = (outside one (two.limit_kept ∙ one.limit_kept) lower.0 low, outside two two.limit_kept lower.1 low)
-
--- so it is beside the slot once that is turned to
-pub turned-beside : {bound : Bound} {i : ℕ} {old new : Memo} {x : Block} → Turned bound i old new → Outside old bound i x → Beside new.slot x
-turned-beside {bound} {i} {old} {new} {x} turned outside = record {
-  apart = subst (λ n. Apart new.slot.rows.first n x) (sym turned.limit_kept) (subst (λ n. Apart n old.slot.limit x) (sym turned.first) outside.apart);
-  within = let l = ap length turned.work in omega (arith, outside.within);
-  few = omega (arith, turned.limit_kept, outside.few);
-}
+use Rattle.answer.proofs.Slots.{slot-low}
 
 -- What a record says in each query that has this plan.
 abbrev pub Reads : Task → ℕ → Operation → Type 0
@@ -85,7 +53,7 @@ module _ (task : Task) {columns : List (List Column)} {q : Tree} (over : Over co
           → Makes mid.slot.limit (slot bound i * mid.slot.limit) (length (kinds_of columns (relation (nodes q) i))) (answer_of bound (view_tables task.view.now) (relation (nodes q) i)) mid.slot.work.now new.slot.work.now r
           → Found old.slot.limit columns task.view.now q bound i new.slot.work.now old.found new.found r
       go (Some b) f m =
-          let s = settle mid.slot.limit columns task.view.now q bound i (slot bound i) refl mid.slot.work.now new.slot.work.now mid.found mid.sound (omega (arith, slot-low bound i low, mid.sound.thirty)) b p.held m in
+          let s = settle mid.slot.limit columns task.view.now q bound i mid.slot.work.now new.slot.work.now mid.found mid.sound (omega (arith, slot-low bound i low, mid.sound.thirty)) b p.held m in
           subst (λ l. Settled columns task.view.now q bound i new.slot.work.now old.found l b) (sym f) (record { held = s.held; grown = λ k there. s.grown k (p.grown k there); here = s.here })
       go None f m = too_long old.slot.limit columns task.view.now q bound i over.wide over.formed h (omega (arith, m.0, p.limit_kept))
 

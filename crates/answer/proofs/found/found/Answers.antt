@@ -4,8 +4,8 @@ use Rattle.query.proofs.Laying.{nodes-some}
 use Rattle.query.specs.Operations.{relation}
 use Rattle.answer.proofs.Limits.{refused_none}
 use Rattle.answer.proofs.Finding.{not_too_long, root_is, certain-stay, possible-are}
-use Rattle.answer.proofs.Making.{stands, still_stands}
-use Rattle.answer.proofs.Noting.{outside_other, turned-beside}
+use Rattle.answer.proofs.Standing.{stands, still_stands}
+use Rattle.answer.proofs.Slots.{outside_other, turned-beside}
 use Rattle.answer.proofs.found.found.Goals as goal
 
 pub returns-in_err-root : goal.returns-in_err-root

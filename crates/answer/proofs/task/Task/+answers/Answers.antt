@@ -1,6 +1,7 @@
 use Rattle.std.proofs.Common.{refl}
 use Rattle.semantics.specs.Queries.{nodes}
-use Rattle.answer.proofs.Noting.{outside, both-outside, table-answers, select-answers, project-answers, product-answers, union-answers, difference-answers}
+use Rattle.answer.proofs.Slots.{outside, both-outside}
+use Rattle.answer.proofs.Noting.{table-answers, select-answers, project-answers, product-answers, union-answers, difference-answers}
 use Rattle.answer.proofs.task.Task.+answers.Goals as goal
 
 pub low-returns-in_err-operation-clause-found : goal.low-returns-in_err-operation-clause-found
