@@ -19,7 +19,7 @@ use Rattle.answer.specs.declared.slot.Slot.{Slot}
 use Rattle.answer.specs.Places.{Placed}
 use Rattle.answer.specs.Slots.{Beside}
 use Rattle.query.specs.Operations.{relation}
-use Rattle.answer.proofs.Making.{Stands}
+use Rattle.answer.proofs.Standing.{Stands}
 use Rattle.answer.proofs.Places.{block_apart}
 
 -- at first nothing is found

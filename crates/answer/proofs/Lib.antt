@@ -5,8 +5,9 @@ pub mod Gathering
 pub mod Pairing
 pub mod Slots
 pub mod Relations
-pub mod Making
+pub mod Standing
 pub mod Settling
 pub mod Limits
 pub mod Finding
 pub mod Replying
+pub mod Noting

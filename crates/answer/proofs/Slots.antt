@@ -1,12 +1,12 @@
 -- The rows of the 30 slots of a workspace do not meet.
-use Rattle.std.proofs.Common.{◌≡◌, ℕ, suc, ◌+◌, ◌*◌, ◌<◌, ◌≤◌, length, sym, refl, ap, ◌∙◌, subst, inl, inr, ⊎_elim, mul-le-mul_right, suc-mul, arith}
+use Rattle.std.proofs.Common.{◌≡◌, ℕ, suc, ◌+◌, ◌*◌, ◌<◌, ◌≤◌, length, get_or, Some, None, sym, refl, ap, ◌∙◌, subst, inl, inr, ⊎_elim, mul-le-mul_right, suc-mul, arith}
 use Rattle.std.proofs.lemmas.Bool.{cases_lt}
 use Rattle.workspace.specs.declared.block.Block.{Block}
 use Rattle.answer.specs.declared.bound.Bound.{Bound}
 use Rattle.answer.specs.declared.bound.Bound.TheVariants.{Low, High}
 use Rattle.answer.specs.Bounds.{other, slot}
 use Rattle.answer.specs.declared.memo.Memo.{Memo}
-use Rattle.answer.specs.declared.slot.Slot.{Slot}
+use Rattle.answer.specs.Notes.{Turned, Outside, Lies}
 use Rattle.answer.specs.Places.{Apart}
 use Rattle.answer.specs.Slots.{Beside}
 
@@ -46,31 +46,41 @@ slots_apart limit k s x apart begins few =
     (λ (h : s ≤ k). inr (omega (arith, slot-end limit s k (omega arith))))
     (cases_lt k s)
 
--- The block of another slot stands beside the slot that is turned to.
-pub slot_beside : (memo : Memo) (here : Slot) (bound bound' : Bound) (i j : ℕ) {limit : ℕ} {b : Block}
-    → here.limit ≡ memo.slot.limit → here.rows.first ≡ slot bound i * memo.slot.limit → here.work.now ≡ memo.slot.work.now → j < 15 → (slot bound' j ≡ slot bound i → ⊥)
-    → memo.slot.limit ≡ limit → (b.first ≡ slot bound' j * limit) × (b.count ≤ limit) → Beside here b
-slot_beside memo here bound bound' i j {limit} {b} l f w low other e at =
-    let begins : b.first ≡ slot bound' j * memo.slot.limit = at.0 ∙ ap (λ n. slot bound' j * n) (sym e) in
-    let few : b.count ≤ memo.slot.limit = omega (arith, at.1) in
-    record {
-      apart = subst (λ n. Apart n here.limit b) (sym f) (subst (λ n. Apart (slot bound i * memo.slot.limit) n b) (sym l)
-          (slots_apart memo.slot.limit (slot bound' j) (slot bound i) b other begins few));
-      within = let c = ap length w in omega (arith, block_room memo.slot.limit (slot bound' j) memo.few (slot-low bound' j low) (length memo.slot.work.now) b memo.room begins few);
-      few = omega arith;
-    }
+-- what stands in another slot is outside this one
+pub outside_slot : (memo : Memo) (bound b : Bound) (i j : ℕ) {x : Block} → j < 15 → (slot b j ≡ slot bound i → ⊥) → (x.first ≡ slot b j * memo.slot.limit) × (x.count ≤ memo.slot.limit) → Outside memo bound i x
+outside_slot memo bound b i j {x} low apart at = record {
+  apart = slots_apart memo.slot.limit (slot b j) (slot bound i) x apart at.0 at.1;
+  within = block_room memo.slot.limit (slot b j) memo.few (slot-low b j low) (length memo.slot.work.now) x memo.room at.0 at.1;
+  few = at.1;
+}
 
--- So does that of another record's slot, and of the record's other answer.
-pub turned_beside : (memo : Memo) (here : Slot) (bound bound' : Bound) (i j : ℕ) {limit : ℕ} {b : Block}
-    → here.limit ≡ memo.slot.limit → here.rows.first ≡ slot bound i * memo.slot.limit → here.work.now ≡ memo.slot.work.now → j < 15 → (j ≡ i → ⊥)
-    → memo.slot.limit ≡ limit → (b.first ≡ slot bound' j * limit) × (b.count ≤ limit) → Beside here b
-turned_beside memo here bound bound' i j l f w low apart = slot_beside memo here bound bound' i j l f w low (slots-other bound' bound j i apart)
+-- the record's other answer, say
+pub outside_twin : (memo : Memo) (bound : Bound) (i : ℕ) {x : Block} → i < 15 → get_or memo.found (slot (other bound) i) None ≡ Some x → Outside memo bound i x
+outside_twin memo bound i {x} low there =
+    outside_slot memo bound (other bound) i i low (twins-apart bound i) (memo.sound.begins (slot (other bound) i) x there, memo.sound.few (slot (other bound) i) x there)
+  where
+    twins-apart : (bound : Bound) (i : ℕ) → slot (other bound) i ≡ slot bound i → ⊥
+    twins-apart Low i e = omega arith
+    twins-apart High i e = omega arith
 
-answers-apart : (bound : Bound) (i : ℕ) → slot (other bound) i ≡ slot bound i → ⊥
-answers-apart Low i e = omega arith
-answers-apart High i e = omega arith
+-- an answer of another record
+pub outside_other : {bound b : Bound} {i j : ℕ} {old mid now : Memo} {x : Block} → Lies b j old mid (Some x) → now.slot.limit ≡ old.slot.limit → (j ≡ i → ⊥) → j < 15 → Outside now bound i x
+outside_other {bound} {b} {i} {j} {old} {mid} {now} {x} lies e apart low =
+    outside_slot now bound b i j low (slots-other b bound j i apart) (lies.within.0 ∙ ap (λ n. slot b j * n) (sym e), omega (arith, lies.within.1))
 
-pub other_beside : (memo : Memo) (here : Slot) (bound : Bound) (i : ℕ) {limit : ℕ} {b : Block}
-    → here.limit ≡ memo.slot.limit → here.rows.first ≡ slot bound i * memo.slot.limit → here.work.now ≡ memo.slot.work.now → i < 15
-    → memo.slot.limit ≡ limit → (b.first ≡ slot (other bound) i * limit) × (b.count ≤ limit) → Beside here b
-other_beside memo here bound i l f w low = slot_beside memo here bound (other bound) i i l f w low (answers-apart bound i)
+-- a lower one, say
+pub outside : {bound b : Bound} {i j : ℕ} {old mid now : Memo} {x : Block} → Lies b j old mid (Some x) → now.slot.limit ≡ old.slot.limit → j < i → i < 15 → Outside now bound i x
+outside {bound} {b} {i} {j} lies e h low = outside_other lies e (λ (same : j ≡ i). omega arith) (omega arith)
+
+-- and what stands in those of two
+pub both-outside : {bound b b' : Bound} {i j k : ℕ} {old mid last : Memo} {x y : Block} → Lies b j old mid (Some x) → Lies b' k mid last (Some y) → (j < i) × (k < i) → i < 15
+    → Outside last bound i x × Outside last bound i y
+both-outside one two lower low = (outside one (two.limit_kept ∙ one.limit_kept) lower.0 low, outside two two.limit_kept lower.1 low)
+
+-- so it is beside the slot once that is turned to
+pub turned-beside : {bound : Bound} {i : ℕ} {old new : Memo} {x : Block} → Turned bound i old new → Outside old bound i x → Beside new.slot x
+turned-beside {bound} {i} {old} {new} {x} turned outside = record {
+  apart = subst (λ n. Apart new.slot.rows.first n x) (sym turned.limit_kept) (subst (λ n. Apart n old.slot.limit x) (sym turned.first) outside.apart);
+  within = let l = ap length turned.work in omega (arith, outside.within);
+  few = omega (arith, turned.limit_kept, outside.few);
+}

@@ -1,9 +1,11 @@
 -- The low and the high answer by one name.
-use Rattle.std.specs.Prelude.{ℕ, ◌+◌, ◌*◌, Bool, List}
-use Rattle.semantics.specs.Answers.{same_row, low, high}
+use Rattle.std.specs.Prelude.{ℕ, ◌+◌, ◌*◌, Bool, not, List, ◌++◌, map, filter}
+use Rattle.semantics.specs.Answers.{same_row, low, high, without_repeats, picked}
 use Rattle.semantics.specs.Compatible.{compatible}
+use Rattle.semantics.specs.Conditions.{Condition}
+use Rattle.semantics.specs.Lists.{some}
 use Rattle.semantics.specs.Queries.{Tree}
-use Rattle.semantics.specs.Truths.{Truth, is_true, may_be_true}
+use Rattle.semantics.specs.Truths.{Truth, is_true, may_be_true, truth}
 use Rattle.semantics.specs.Views.{Masked}
 use Rattle.answer.specs.declared.bound.Bound.{Bound}
 use Rattle.answer.specs.declared.bound.Bound.TheVariants.{Low, High}
@@ -32,3 +34,18 @@ takes_out High = same_row
 abbrev pub slot : Bound → ℕ → ℕ
 slot Low i = 2 * i
 slot High i = 2 * i + 1
+
+-- The rows that a select keeps.
+abbrev pub selected : Bound → Condition → List (List Masked) → List (List Masked)
+selected bound c rows = filter (λ x. keeps bound (truth c x)) rows
+
+-- The listed columns of the rows, and the rows of two parts, without repeats.
+abbrev pub projected : List ℕ → List (List Masked) → List (List Masked)
+projected cs rows = without_repeats (map (picked cs) rows)
+
+abbrev pub united : List (List Masked) → List (List Masked) → List (List Masked)
+united lefts rights = without_repeats (lefts ++ rights)
+
+-- The left rows that no right row takes out.
+abbrev pub subtracted : Bound → List (List Masked) → List (List Masked) → List (List Masked)
+subtracted bound lefts rights = filter (λ x. not (some (takes_out bound x) rights)) lefts

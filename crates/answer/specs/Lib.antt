@@ -5,3 +5,4 @@ pub mod Selecting
 pub mod Slots
 pub mod Memos
 pub mod Answering
+pub mod Notes

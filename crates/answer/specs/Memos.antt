@@ -15,7 +15,6 @@ use Rattle.workspace.specs.declared.block.Block.{Block}
 use Rattle.workspace.specs.Blocks.{block_rows}
 use Rattle.answer.specs.declared.bound.Bound.{Bound}
 use Rattle.answer.specs.Bounds.{answer_of, slot}
-use Rattle.answer.specs.Places.{Makes}
 use Rattle.query.specs.Operations.{relation}
 
 -- The bytes are a well-formed query over these columns, the plan is its plan, and the view's tables have these columns.
@@ -54,18 +53,6 @@ pub record Settled (columns : List (List Column)) (view : View) (q : Tree) (boun
 -- Some relation up to number `i` has a high answer of more than `limit` rows.
 abbrev pub TooLong : ℕ → View → Tree → ℕ → Type 0
 TooLong limit view q i = (j : ℕ) × (j ≤ i) × (limit < length (high (view_tables view) (relation (nodes q) j)))
-
--- The answer of relation number `i` was made in its place, when those of its parts had been found.
-pub record Brought (limit : ℕ) (columns : List (List Column)) (view : View) (q : Tree) (bound : Bound) (i : ℕ) (cells : List Masked) (old new : List (Option Block)) (b : Block) : Type 0 where
-  pub mid : List Masked
-  pub held : Held columns view q mid new
-  pub grown : Grown old new
-  pub made : Makes limit (slot bound i * limit) (length (kinds_of columns (relation (nodes q) i))) (answer_of bound (view_tables view) (relation (nodes q) i)) mid cells (Some b)
-
--- It was made, or there are too many rows.
-abbrev pub Made : ℕ → List (List Column) → View → Tree → Bound → ℕ → List Masked → List (Option Block) → List (Option Block) → Option Block → Type 0
-Made limit columns view q bound i cells old new (Some b) = Brought limit columns view q bound i cells old new b
-Made limit columns view q bound i cells old new None = TooLong limit view q i
 
 -- The answer is found, or there are too many rows.
 abbrev pub Found : ℕ → List (List Column) → View → Tree → Bound → ℕ → List Masked → List (Option Block) → List (Option Block) → Option Block → Type 0

@@ -33,10 +33,8 @@ pub(crate) fn found(task: Task, memo: &mut Memo) -> Result<Rows, Refusal>
 {
     overfull(task, memo)?;
     let root = task.plan.root().ok_or(Refusal::NotOneRelation(0))?;
-    let low = task.evaluate(Bound::Low, memo, root);
-    let certain = low.ok_or(too_many_rows(root))?;
-    let high = task.evaluate(Bound::High, memo, root);
-    let all = high.ok_or(too_many_rows(root))?;
+    let certain = task.low(memo, root).ok_or(too_many_rows(root))?;
+    let all = task.high(memo, root).ok_or(too_many_rows(root))?;
     memo.turn(Bound::Low, spare(root));
     let possible = memo.slot.difference(Bound::High, all, certain);
     Ok(Rows { certain, possible })

@@ -4,13 +4,14 @@
 
 mod bound;
 mod difference;
-mod evaluate;
 mod fetch;
 mod found;
 mod gather;
 mod keep;
+mod low;
 mod meet;
 mod memo;
+mod note;
 mod overfull;
 mod product;
 mod project;

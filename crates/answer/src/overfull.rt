@@ -32,11 +32,8 @@ pub(crate) fn overfull(task: Task, memo: &mut Memo) -> Result<(), Refusal>
     ensures limit { memo.new.slot.limit ≡ memo.old.slot.limit }
     ensures lowest { (columns : List (List Column)) (q : Tree) → Over columns task.entry.view.now task.entry.query.now task.entry.plan.now q → Held columns task.entry.view.now q memo.old.slot.work.now memo.old.found → NoneTooLong memo.old.slot.limit columns task.entry.view.now q memo.new.slot.work.now memo.new.found result }
 {
-    // no `try_for_each`: of what a closure writes nothing would be known behind it. `evaluate` gives no refusal, as its
-    // place would be that of a part, and it is the record asked for that is refused
     for number in 0..task.plan.count() {
-        let high = task.evaluate(Bound::High, memo, number);
-        high.ok_or(too_many_rows(number))?;
+        task.high(memo, number).ok_or(too_many_rows(number))?;
     }
     Ok(())
 }

@@ -9,15 +9,15 @@ use Rattle.answer.proofs.overfull.overfull.Goals as goal
 pub returns-in_err-ok_or : goal.returns-in_err-ok_or
 returns-in_err-ok_or c =
     let p = err_from_is_err_and c.from_residual.result c.from_residual.ensures.1 in
-    let none = refused_none c.evaluate-high.result _ _ c.in_err-ok_or.ensures.value in
+    let none = refused_none c.high.result _ _ c.in_err-ok_or.ensures.value in
     let same = c.loop-number.invariant.0 in
     record {
-      limit = c.evaluate-high.ensures.limit ∙ same;
+      limit = c.high.ensures.lies.limit_kept ∙ same;
       lowest = λ columns q over held.
           let i = c.loop-number.invariant.1 columns q over held in
           let h : c.loop-number.number < length (nodes q) = omega (arith, c.loop-number-test.true, over.planned.counted) in
-          let found = subst (λ n. Found n columns c.args.task.view.now q High c.loop-number.number c.evaluate-high.new.memo.slot.work.now c.loop-number.memo.found c.evaluate-high.new.memo.found c.evaluate-high.result) same (c.evaluate-high.ensures.found columns q over h i.1) in
-          let long = subst (λ r. Found c.args.memo.now.slot.limit columns c.args.task.view.now q High c.loop-number.number c.evaluate-high.new.memo.slot.work.now c.loop-number.memo.found c.evaluate-high.new.memo.found r) none.0 found in
+          let found = subst (λ n. Found n columns c.args.task.view.now q High c.loop-number.number c.high.new.memo.slot.work.now c.loop-number.memo.found c.high.new.memo.found c.high.result) same (c.high.ensures.found.over columns q over h i.1) in
+          let long = subst (λ r. Found c.args.memo.now.slot.limit columns c.args.task.view.now q High c.loop-number.number c.high.new.memo.slot.work.now c.loop-number.memo.found c.high.new.memo.found r) none.0 found in
           rw (p.1, p.2, none.1, c.too_many_rows.ensures)
           (c.loop-number.number, sym (passed_stop c.args.memo.now.slot.limit c.args.task.view.now q c.loop-number.number h i.0 long), refl);
     }
@@ -25,15 +25,15 @@ returns-in_err-ok_or c =
 pub loop-number-preserved : goal.loop-number-preserved
 loop-number-preserved c =
     let same = c.loop-number.invariant.0 in (
-      c.evaluate-high.ensures.limit ∙ same,
+      c.high.ensures.lies.limit_kept ∙ same,
       λ columns q over held.
           let i = c.loop-number.invariant.1 columns q over held in
           let h : c.loop-number.number < length (nodes q) = omega (arith, c.loop-number-test.true, over.planned.counted) in
-          let found = subst (λ n. Found n columns c.args.task.view.now q High c.loop-number.number c.evaluate-high.new.memo.slot.work.now c.loop-number.memo.found c.evaluate-high.new.memo.found c.evaluate-high.result) same (c.evaluate-high.ensures.found columns q over h i.1) in
-          let s = subst (λ r. Found c.args.memo.now.slot.limit columns c.args.task.view.now q High c.loop-number.number c.evaluate-high.new.memo.slot.work.now c.loop-number.memo.found c.evaluate-high.new.memo.found r) c.in_ok-ok_or.ensures.ok_part found in
-          let sound = subst (λ n. Sound n c.evaluate-high.new.memo.found) (c.evaluate-high.ensures.limit ∙ same) c.evaluate-high.new.memo.sound in (
+          let found = subst (λ n. Found n columns c.args.task.view.now q High c.loop-number.number c.high.new.memo.slot.work.now c.loop-number.memo.found c.high.new.memo.found c.high.result) same (c.high.ensures.found.over columns q over h i.1) in
+          let s = subst (λ r. Found c.args.memo.now.slot.limit columns c.args.task.view.now q High c.loop-number.number c.high.new.memo.slot.work.now c.loop-number.memo.found c.high.new.memo.found r) c.in_ok-ok_or.ensures.ok_part found in
+          let sound = subst (λ n. Sound n c.high.new.memo.found) (c.high.ensures.lies.limit_kept ∙ same) c.high.new.memo.sound in (
             passed-more c.args.memo.now.slot.limit c.args.task.view.now q c.loop-number.number h i.0
-                (high-few c.args.memo.now.slot.limit columns c.args.task.view.now q c.loop-number.number c.evaluate-high.new.memo.slot.work.now c.loop-number.memo.found c.evaluate-high.new.memo.found _ h sound s),
+                (high-few c.args.memo.now.slot.limit columns c.args.task.view.now q c.loop-number.number c.high.new.memo.slot.work.now c.loop-number.memo.found c.high.new.memo.found _ h sound s),
             s.held,
           ),
     )

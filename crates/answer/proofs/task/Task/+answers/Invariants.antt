@@ -1,8 +1,7 @@
-use Rattle.std.proofs.Common.{◌+◌, ◌*◌}
 use Rattle.answer.proofs.task.Task.+answers.Given as goal
 
-abbrev pub decreases-evaluate : goal.decreases-evaluate
-decreases-evaluate l = 2 * l.number + 1
+abbrev pub decreases-low : goal.decreases-low
+decreases-low l = l.number
 
-abbrev pub decreases-make : goal.decreases-make
-decreases-make l = 2 * l.number
+abbrev pub decreases-high : goal.decreases-high
+decreases-high l = l.number

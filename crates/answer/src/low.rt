@@ -1,0 +1,99 @@
+ghost use Rattle.std.specs.Prelude.{◌<◌};
+ghost use Rattle.answer.specs.Notes.{Lies, Answers};
+
+use crate::bound::Bound;
+use crate::memo::Memo;
+use crate::task::Task;
+use query::Operation;
+use workspace::Block;
+
+impl Task<'_, '_, '_> {
+    /// The low answer of a record: the rows that are in it for certain. None where an answer has too
+    /// many rows.
+    #[cycle(answers)]
+    pub(crate) fn low(self, memo: &mut Memo, number: usize) -> Option<Block>
+        requires lower { number < 15 }
+        ensures lies { Lies Bound.Low number memo.old memo.new result }
+        ensures found { Answers self.entry Bound.Low number memo.old memo.new result }
+    {
+        if let Some(found) = memo.noted(Bound::Low, number) {
+            return Some(found);
+        }
+        let operation = self.plan.operation(self.query, number)?;
+        match operation {
+            Operation::Table(table) => memo.table(
+                Bound::Low,
+                number,
+                self.view,
+                usize::from(table),
+            ),
+            Operation::Select(part, condition) => {
+                let from = self.low(memo, part)?;
+                memo.select(Bound::Low, number, from, condition)
+            }
+            Operation::Project(part, columns) => {
+                let from = self.low(memo, part)?;
+                memo.project(Bound::Low, number, from, columns)
+            }
+            Operation::Product(first, second) => {
+                let left = self.low(memo, first)?;
+                let right = self.low(memo, second)?;
+                memo.product(Bound::Low, number, left, right)
+            }
+            Operation::Union(first, second) => {
+                let left = self.low(memo, first)?;
+                let right = self.low(memo, second)?;
+                memo.union(Bound::Low, number, left, right)
+            }
+            Operation::Difference(first, second) => {
+                let left = self.low(memo, first)?;
+                let right = self.high(memo, second)?;
+                memo.difference(Bound::Low, number, left, right)
+            }
+        }
+    }
+
+    /// The high answer of a record: the rows that may be in it. None where an answer has too many rows.
+    #[cycle(answers)]
+    pub(crate) fn high(self, memo: &mut Memo, number: usize) -> Option<Block>
+        requires lower { number < 15 }
+        ensures lies { Lies Bound.High number memo.old memo.new result }
+        ensures found { Answers self.entry Bound.High number memo.old memo.new result }
+    {
+        if let Some(found) = memo.noted(Bound::High, number) {
+            return Some(found);
+        }
+        let operation = self.plan.operation(self.query, number)?;
+        match operation {
+            Operation::Table(table) => memo.table(
+                Bound::High,
+                number,
+                self.view,
+                usize::from(table),
+            ),
+            Operation::Select(part, condition) => {
+                let from = self.high(memo, part)?;
+                memo.select(Bound::High, number, from, condition)
+            }
+            Operation::Project(part, columns) => {
+                let from = self.high(memo, part)?;
+                memo.project(Bound::High, number, from, columns)
+            }
+            Operation::Product(first, second) => {
+                let left = self.high(memo, first)?;
+                let right = self.high(memo, second)?;
+                memo.product(Bound::High, number, left, right)
+            }
+            Operation::Union(first, second) => {
+                let left = self.high(memo, first)?;
+                let right = self.high(memo, second)?;
+                memo.union(Bound::High, number, left, right)
+            }
+            Operation::Difference(first, second) => {
+                let left = self.high(memo, first)?;
+                let right = self.low(memo, second)?;
+                memo.difference(Bound::High, number, left, right)
+            }
+        }
+    }
+}
