@@ -10,7 +10,7 @@ use Rattle.semantics.specs.Bytes.{is_byte, record_bytes}
 use Rattle.semantics.specs.Conditions.{Condition, formed_condition}
 use Rattle.semantics.specs.Lists.{every}
 use Rattle.semantics.specs.Outcomes.{Outcome, done, refuse, question, and_then}
-use Rattle.semantics.specs.Queries.{Tree, table, select, project, product, union, difference, nodes, formed, Question, chain, answered, proper, well_formed}
+use Rattle.semantics.specs.Queries.{Tree, table, select, project, product, union, difference, nodes, parts_of, formed, Question, chain, answered, proper, well_formed}
 use Rattle.semantics.specs.Records.{Record, table_record, select_record, project_record, product_record, union_record, difference_record, record_of, record_number, record_body, own_bytes, encode}
 use Rattle.semantics.specs.Reading.{empty_form, condition_form, table_form, record_form, said_by, Making, alone, of_one, of_two, making, Grown, grown, put, asked, query_faults, query_walk, questions, Query, ReadsExactly, ReadsOneWay}
 use Rattle.semantics.proofs.Every.{every_append}
@@ -44,17 +44,34 @@ nodes_end (union q r) = (nodes q ++ nodes r, refl)
 nodes_end (difference q r) = (nodes q ++ nodes r, refl)
 
 abbrev pub Makes : Record → Making → Type 0
-Makes s (alone q) = (record_of q ≡ s) × (nodes q ≡ q ∷ [])
-Makes s (of_one make) = (q : Tree) → (record_of (make q) ≡ s) × (nodes (make q) ≡ nodes q ++ make q ∷ [])
-Makes s (of_two make) = (q r : Tree) → (record_of (make q r) ≡ s) × (nodes (make q r) ≡ (nodes q ++ nodes r) ++ make q r ∷ [])
+Makes s (alone q) = (record_of q ≡ s) × (nodes q ≡ q ∷ []) × (parts_of q ≡ [])
+Makes s (of_one make) = (q : Tree) → (record_of (make q) ≡ s) × (nodes (make q) ≡ nodes q ++ make q ∷ []) × (parts_of (make q) ≡ q ∷ [])
+Makes s (of_two make) = (q r : Tree) → (record_of (make q r) ≡ s) × (nodes (make q r) ≡ (nodes q ++ nodes r) ++ make q r ∷ []) × (parts_of (make q r) ≡ q ∷ r ∷ [])
 
 pub makes : (s : Record) → Makes s (making s)
-makes (table_record t) = (refl, refl)
-makes (select_record c) = λ q. (refl, refl)
-makes (project_record cs) = λ q. (refl, refl)
-makes product_record = λ q r. (refl, refl)
-makes union_record = λ q r. (refl, refl)
-makes difference_record = λ q r. (refl, refl)
+makes (table_record t) = (refl, refl, refl)
+makes (select_record c) = λ q. (refl, refl, refl)
+makes (project_record cs) = λ q. (refl, refl, refl)
+makes product_record = λ q r. (refl, refl, refl)
+makes union_record = λ q r. (refl, refl, refl)
+makes difference_record = λ q r. (refl, refl, refl)
+
+-- and the other way: its record makes it of its parts
+abbrev pub MadeOf : Making → List Tree → Tree → Type 0
+MadeOf (alone t) parts q = q ≡ t
+MadeOf (of_one make) [] q = ⊥
+MadeOf (of_one make) (l ∷ parts) q = q ≡ make l
+MadeOf (of_two make) [] q = ⊥
+MadeOf (of_two make) (l ∷ []) q = ⊥
+MadeOf (of_two make) (l ∷ (r ∷ parts)) q = q ≡ make l r
+
+pub made : (q : Tree) → MadeOf (making (record_of q)) (parts_of q) q
+made (table t) = refl
+made (select c q) = refl
+made (project cs q) = refl
+made (product q r) = refl
+made (union q r) = refl
+made (difference q r) = refl
 
 -- the form of a record, which a relation has from its own
 abbrev formed_record : Record → Bool

@@ -27,6 +27,15 @@ nodes (product q r) = (nodes q ++ nodes r) ++ product q r ∷ []
 nodes (union q r) = (nodes q ++ nodes r) ++ union q r ∷ []
 nodes (difference q r) = (nodes q ++ nodes r) ++ difference q r ∷ []
 
+-- The relations that it is made of, from left to right.
+abbrev pub parts_of : Tree → List Tree
+parts_of (table t) = []
+parts_of (select c q) = q ∷ []
+parts_of (project cs q) = q ∷ []
+parts_of (product q r) = q ∷ r ∷ []
+parts_of (union q r) = q ∷ r ∷ []
+parts_of (difference q r) = q ∷ r ∷ []
+
 -- The kinds of a relation's columns, over the columns of four tables.
 abbrev pub kinds_of : List (List Column) → Tree → List Kind
 kinds_of columns (table t) = map (λ column. column.kind) (slice_index_or columns t [])
