@@ -11,10 +11,10 @@ use Rattle.semantics.specs.declared.refusal.Refusal.{Refusal}
 use Rattle.semantics.specs.Conditions.{Comparison, Condition, every_comparison}
 use Rattle.semantics.specs.Outcomes.{done}
 use Rattle.semantics.specs.Reading.{condition_form}
-use Rattle.query.specs.declared.term.Term.{Term}
-use Rattle.query.specs.declared.terms.Terms.{Terms}
-use Rattle.query.specs.Terms.{term_of, terms_in, terms_left, passes}
-use Rattle.query.proofs.Leading.{all_terms}
+use Rattle.records.specs.declared.term.Term.{Term}
+use Rattle.records.specs.declared.terms.Terms.{Terms}
+use Rattle.records.specs.Terms.{term_of, terms_in, terms_left, passes}
+use Rattle.records.proofs.Leading.{all_terms}
 
 -- a chain that asks it of each term asks it of each comparison
 pub all_asked : {F : Type 0} {g : Mut F (Term × Unit {0}) Bool} {s : Terms} (p : Comparison → Bool) (u : Terms) (f : F) (r : Bool) (e : Refusal) (body : List ℕ) (c : Condition) →

@@ -1,5 +1,5 @@
 -- The relations of a stack in a plan, and what each record makes of them.
-use Rattle.std.proofs.Common.{◌≡◌, ℕ, zero, suc, ◌+◌, ◌-◌, ◌<◌, ◌≤◌, Bool, true, false, eqb, leb, ◌⊎◌, List, [], ◌∷◌, ◌++◌, map, length, get_or, drop, Some, None, Ok, Err, Result, sym, refl, ap, ◌∙◌, subst, inl, inr, ⊎_elim, arith}
+use Rattle.std.proofs.Common.{◌≡◌, ℕ, zero, suc, ◌+◌, ◌-◌, ◌<◌, ◌≤◌, Bool, true, false, ◌&&◌, eqb, leb, ◌⊎◌, List, [], ◌∷◌, ◌++◌, length, get_or, drop, Some, None, Ok, Err, Result, sym, refl, ap, ◌∙◌, subst, inl, inr, ⊎_elim, arith}
 use Rattle.std.proofs.lemmas.List.{append_assoc, length-append, length_push, get_or_push, get_or_append_left, get_or-append_right}
 use Rattle.std.proofs.lemmas.Option.{slice_get_within}
 use Rattle.std.proofs.lemmas.Bool.{le-leb, lt-leb, eq-eqb, ne_eqb}
@@ -8,40 +8,36 @@ use Rattle.std.specs.Result.{MatchResult}
 use Rattle.semantics.specs.declared.kind.Column.{Column}
 use Rattle.semantics.specs.declared.refusal.Refusal.{Refusal}
 use Rattle.semantics.specs.declared.refusal.Refusal.TheVariants.{StackShort, NoSuchName, Unfit, ProductTooWide}
-use Rattle.semantics.specs.Conditions.{Condition, kind_at, named_comparison, fitting_comparison, every_comparison}
+use Rattle.semantics.specs.Conditions.{Condition, named_comparison, fitting_comparison, every_comparison}
 use Rattle.semantics.specs.Kinds.{same_kind}
 use Rattle.semantics.specs.Lists.{pairwise}
-use Rattle.semantics.specs.Outcomes.{Outcome, done, refuse}
-use Rattle.semantics.specs.Queries.{Tree, table, select, project, product, union, difference, nodes, kinds_of}
-use Rattle.semantics.specs.Records.{Record, record_of, select_record, project_record, product_record, union_record, difference_record}
+use Rattle.semantics.specs.Outcomes.{Outcome, done, refuse, question, and_then}
+use Rattle.semantics.specs.Queries.{Tree, table, select, project, product, nodes, parts_of, kinds_of, chain, answered}
+use Rattle.semantics.specs.Reading.{next_said, Making, of_one, of_two, Grown, grown, put}
+use Rattle.semantics.specs.Records.{Record, record_of}
+use Rattle.semantics.proofs.Trees.{put_passes, nodes_end, Makes}
+use Rattle.semantics.specs.declared.kind.Kind.{Kind}
 use Rattle.query.specs.declared.plan.Planned.{Planned}
 use Rattle.query.specs.declared.plan.Plan.{Plan}
 use Rattle.query.specs.declared.step.Sides.{Sides}
 use Rattle.query.specs.declared.step.Step.{Step}
 use Rattle.query.specs.Kinds.{kinds_in, among}
-use Rattle.query.specs.Plans.{Parted, planned_in, record_count, NodeOf, Plans, laid, asked, Grew, PartIs, SidesOf, SidesAre, lone}
-use Rattle.query.specs.Saying.{first_said}
+use Rattle.query.specs.Plans.{PartsAt, planned_in, record_count, NodeOf, Plans, laid, Grew, PartIs, SidesAre, lone}
 use Rattle.query.proofs.Widths.{got_none}
+
+-- what record number `n` makes, by how it makes it
+abbrev pub put_on : List (List Column) → ℕ → Making → List Tree → Outcome (List Tree)
+put_on columns n m stack = and_then (grown (StackShort n) m stack) (λ (next : Grown). put columns n next.top chain (done (next.top ∷ next.below)))
 
 -- a tree is the last of its relations
 last-at : {X : Type 0} (xs : List X) (y d : X) → get_or (xs ++ y ∷ []) (length (xs ++ y ∷ []) - 1) d ≡ y
 last-at xs y d = get_or_push xs y d (length (xs ++ y ∷ []) - 1) (omega (arith, length_push xs y))
 
 nodes-last : (q d : Tree) → get_or (nodes q) (length (nodes q) - 1) d ≡ q
-nodes-last (table t) d = refl
-nodes-last (select c q) d = last-at (nodes q) (select c q) d
-nodes-last (project cs q) d = last-at (nodes q) (project cs q) d
-nodes-last (product q r) d = last-at (nodes q ++ nodes r) (product q r) d
-nodes-last (union q r) d = last-at (nodes q ++ nodes r) (union q r) d
-nodes-last (difference q r) d = last-at (nodes q ++ nodes r) (difference q r) d
+nodes-last q d = let n = nodes_end q in ap (λ l. get_or l (length l - 1) d) n.1 ∙ last-at n.0 q d
 
 pub nodes-some : (q : Tree) → 1 ≤ length (nodes q)
-nodes-some (table t) = omega arith
-nodes-some (select c q) = omega (arith, length_push (nodes q) (select c q))
-nodes-some (project cs q) = omega (arith, length_push (nodes q) (project cs q))
-nodes-some (product q r) = omega (arith, length_push (nodes q ++ nodes r) (product q r))
-nodes-some (union q r) = omega (arith, length_push (nodes q ++ nodes r) (union q r))
-nodes-some (difference q r) = omega (arith, length_push (nodes q ++ nodes r) (difference q r))
+nodes-some q = let n = nodes_end q in omega (arith, ap length n.1, length_push n.0 q)
 
 top-at : (x : Tree) (below : List Tree) (n : ℕ) → n ≡ length (laid (x ∷ below)) → get_or (laid (x ∷ below)) (n - 1) (table 0) ≡ x
 top-at x below n e =
@@ -130,71 +126,42 @@ module _ (columns : List (List Column)) (bytes : List ℕ) (plan : Plan) where
   lone_by stack (Err e) b said plans h m f = m ∙ lone_none stack plans h.0
   lone_by stack (Ok r) b said plans h m f = f r m ∙ lone_is stack r plans h
 
-  -- A selection.
-  module _ (c : Condition) where
-    pub select_short : (stack : List Tree) → Plans columns bytes plan (laid stack) → None ≡ slice_get (planned_in plan) (record_count plan - 1) → asked columns (record_count plan) stack (select_record c) ≡ refuse (StackShort (record_count plan))
-    select_short [] plans h = refl
-    select_short (x ∷ below) plans h = absurd (no_last x below plans h)
+  -- A record with one part.
+  module _ (make : Tree → Tree) where
+    pub one_short : (stack : List Tree) → Plans columns bytes plan (laid stack) → None ≡ slice_get (planned_in plan) (record_count plan - 1) → put_on columns (record_count plan) (of_one make) stack ≡ refuse (StackShort (record_count plan))
+    one_short [] plans h = refl
+    one_short (x ∷ below) plans h = absurd (no_last x below plans h)
 
-    pub select_unnamed : (stack : List Tree) (p : Planned) → Plans columns bytes plan (laid stack) → Some p ≡ slice_get (planned_in plan) (record_count plan - 1) → false ≡ every_comparison (named_comparison (kinds_in p.step.kinds)) c → asked columns (record_count plan) stack (select_record c) ≡ refuse (NoSuchName (record_count plan))
-    select_unnamed [] p plans h e = absurd (no-record plans p h)
-    select_unnamed (x ∷ below) p plans h e =
-        let t = top-known x below plans p h in
-        let a : every_comparison (named_comparison (kinds_of columns x)) c ≡ false = sym (e ∙ ap (λ ks. every_comparison (named_comparison ks) c) t.0) in
-        rw a
+    pub one_refused :
+        (stack : List Tree) (p : Planned) (e : Refusal) → Plans columns bytes plan (laid stack) → Some p ≡ slice_get (planned_in plan) (record_count plan - 1) →
+        ((x : Tree) (next : Outcome (List Tree)) → kinds_in p.step.kinds ≡ kinds_of columns x → put columns (record_count plan) (make x) chain next ≡ refuse e) →
+        put_on columns (record_count plan) (of_one make) stack ≡ refuse e
+    one_refused [] p e plans h fails = absurd (no-record plans p h)
+    one_refused (x ∷ below) p e plans h fails = fails x (done (make x ∷ below)) (top-known x below plans p h).0
 
-    pub select_unfit : (stack : List Tree) (p : Planned) → Plans columns bytes plan (laid stack) → Some p ≡ slice_get (planned_in plan) (record_count plan - 1) → true ≡ every_comparison (named_comparison (kinds_in p.step.kinds)) c → false ≡ every_comparison (fitting_comparison (kinds_in p.step.kinds)) c → asked columns (record_count plan) stack (select_record c) ≡ refuse (Unfit (record_count plan))
-    select_unfit [] p plans h e f = absurd (no-record plans p h)
-    select_unfit (x ∷ below) p plans h e f =
+    pub one_grew :
+        (says : Record) → Makes says (of_one make) →
+        (stack : List Tree) (p : Planned) (step : Step) → Plans columns bytes plan (laid stack) → Some p ≡ slice_get (planned_in plan) (record_count plan - 1) →
+        step.left ≡ record_count plan - 1 → step.start ≡ p.step.start →
+        ((x : Tree) → kinds_in p.step.kinds ≡ kinds_of columns x → (answered columns (make x) chain ≡ true) × (kinds_in step.kinds ≡ kinds_of columns (make x))) →
+        Grew columns stack step says (put_on columns (record_count plan) (of_one make) stack)
+    one_grew says so [] p step plans h l s passes = absurd (no-record plans p h)
+    one_grew says so (x ∷ below) p step plans h l s passes =
         let t = top-known x below plans p h in
-        let a : every_comparison (named_comparison (kinds_of columns x)) c ≡ true = sym (e ∙ ap (λ ks. every_comparison (named_comparison ks) c) t.0) in
-        let b : every_comparison (fitting_comparison (kinds_of columns x)) c ≡ false = sym (f ∙ ap (λ ks. every_comparison (fitting_comparison ks) c) t.0) in
-        rw (a, b)
-
-    pub select_grew : (stack : List Tree) (p : Planned) (step : Step) → Plans columns bytes plan (laid stack) → Some p ≡ slice_get (planned_in plan) (record_count plan - 1) → true ≡ every_comparison (named_comparison (kinds_in p.step.kinds)) c → true ≡ every_comparison (fitting_comparison (kinds_in p.step.kinds)) c → step.left ≡ record_count plan - 1 → step.start ≡ p.step.start → step.kinds ≡ p.step.kinds → Grew columns stack step (select_record c) (asked columns (record_count plan) stack (select_record c))
-    select_grew [] p step plans h e f l s d = absurd (no-record plans p h)
-    select_grew (x ∷ below) p step plans h e f l s d =
-        let t = top-known x below plans p h in
-        let a : every_comparison (named_comparison (kinds_of columns x)) c ≡ true = sym (e ∙ ap (λ ks. every_comparison (named_comparison ks) c) t.0) in
-        let b : every_comparison (fitting_comparison (kinds_of columns x)) c ≡ true = sym (f ∙ ap (λ ks. every_comparison (fitting_comparison ks) c) t.0) in
+        let y = passes x t.0 in
+        let m = so x in
+        let n = plans.counted in
+        let left : (step.left < length (laid (x ∷ below))) × (x ≡ get_or (laid (x ∷ below)) step.left (table 0)) =
+        (omega (arith, l, n, t.2), sym (ap (λ i. get_or (laid (x ∷ below)) i (table 0)) l ∙ top-at x below (record_count plan) n)) in
         record {
-          top = select c x;
+          top = make x;
           below = below;
-          is = rw (a, b);
-          adds = sym (append_assoc (laid below) (nodes x) (select c x ∷ []));
-          said = refl;
-          parted = (omega (arith, l, plans.counted, t.2), sym (ap (λ i. get_or (laid (x ∷ below)) i (table 0)) l ∙ top-at x below (record_count plan) plans.counted));
-          begins = omega (arith, s, t.1, length-append (laid below) (nodes x), length_push (nodes x) (select c x));
-          known = ap kinds_in d ∙ t.0;
-        }
-
-  -- A projection.
-  module _ (cs : List ℕ) where
-    pub project_short : (stack : List Tree) → Plans columns bytes plan (laid stack) → None ≡ slice_get (planned_in plan) (record_count plan - 1) → asked columns (record_count plan) stack (project_record cs) ≡ refuse (StackShort (record_count plan))
-    project_short [] plans h = refl
-    project_short (x ∷ below) plans h = absurd (no_last x below plans h)
-
-    pub project_unnamed : (stack : List Tree) (p : Planned) → Plans columns bytes plan (laid stack) → Some p ≡ slice_get (planned_in plan) (record_count plan - 1) → among (kinds_in p.step.kinds) cs ≡ false → asked columns (record_count plan) stack (project_record cs) ≡ refuse (NoSuchName (record_count plan))
-    project_unnamed [] p plans h e = absurd (no-record plans p h)
-    project_unnamed (x ∷ below) p plans h e =
-        let t = top-known x below plans p h in
-        let a : among (kinds_of columns x) cs ≡ false = sym (ap (λ ks. among ks cs) t.0) ∙ e in
-        rw a
-
-    pub project_grew : (stack : List Tree) (p : Planned) (step : Step) → Plans columns bytes plan (laid stack) → Some p ≡ slice_get (planned_in plan) (record_count plan - 1) → among (kinds_in p.step.kinds) cs ≡ true → step.left ≡ record_count plan - 1 → step.start ≡ p.step.start → kinds_in step.kinds ≡ map (kind_at (kinds_in p.step.kinds)) cs → Grew columns stack step (project_record cs) (asked columns (record_count plan) stack (project_record cs))
-    project_grew [] p step plans h e l s d = absurd (no-record plans p h)
-    project_grew (x ∷ below) p step plans h e l s d =
-        let t = top-known x below plans p h in
-        let a : among (kinds_of columns x) cs ≡ true = sym (ap (λ ks. among ks cs) t.0) ∙ e in
-        record {
-          top = project cs x;
-          below = below;
-          is = rw a;
-          adds = sym (append_assoc (laid below) (nodes x) (project cs x ∷ []));
-          said = refl;
-          parted = (omega (arith, l, plans.counted, t.2), sym (ap (λ i. get_or (laid (x ∷ below)) i (table 0)) l ∙ top-at x below (record_count plan) plans.counted));
-          begins = omega (arith, s, t.1, length-append (laid below) (nodes x), length_push (nodes x) (project cs x));
-          known = d ∙ ap (λ ks. map (kind_at ks) cs) t.0;
+          is = put_passes columns (record_count plan) (make x) (done (make x ∷ below)) chain y.0;
+          adds = ap (λ l. laid below ++ l) m.1 ∙ sym (append_assoc (laid below) (nodes x) (make x ∷ []));
+          said = m.0;
+          parted = subst (λ (ps : List Tree). PartsAt (laid (x ∷ below)) (length (laid (x ∷ below))) step.left ps) (sym m.2) left;
+          begins = omega (arith, s, t.1, ap length m.1, length-append (laid below) (nodes x), length_push (nodes x) (make x));
+          known = y.1;
         }
 
 -- two relations under one
@@ -213,98 +180,90 @@ two-parted x y below left is =
       sym (top-at x (y ∷ below) (length (laid (x ∷ (y ∷ below)))) refl),
     )
 
-two-begins : (x y : Tree) (below : List Tree) (s : Tree) (start : ℕ) → nodes s ≡ (nodes y ++ nodes x) ++ s ∷ [] → start ≡ length (laid below) → start + length (nodes s) ≡ length (laid (x ∷ (y ∷ below))) + 1
-two-begins x y below s start n e =
-    omega (arith, ap length n, length_push (nodes y ++ nodes x) s, length-append (nodes y) (nodes x), length-append (laid (y ∷ below)) (nodes x), length-append (laid below) (nodes y))
+module _ (columns : List (List Column)) (n : ℕ) (make : Tree → Tree → Tree) where
+  -- A record with two parts.
+  pub two_short : (stack : List Tree) (e : Refusal) → SidesAre columns n stack (Err e) → put_on columns n (of_two make) stack ≡ refuse e
+  two_short [] e s = rw s
+  two_short (x ∷ []) e s = rw s
+  two_short (x ∷ (y ∷ below)) e s = absurd s
 
-module _ (columns : List (List Column)) (n : ℕ) where
-  -- A product.
-  pub product_short : (stack : List Tree) (e : Refusal) → SidesAre columns n stack (Err e) → asked columns n stack product_record ≡ refuse e
-  product_short [] e s = rw s
-  product_short (x ∷ []) e s = rw s
-  product_short (x ∷ (y ∷ below)) e s = absurd s
-
-  pub union_short : (stack : List Tree) (e : Refusal) → SidesAre columns n stack (Err e) → asked columns n stack union_record ≡ refuse e
-  union_short [] e s = rw s
-  union_short (x ∷ []) e s = rw s
-  union_short (x ∷ (y ∷ below)) e s = absurd s
-
-  pub difference_short : (stack : List Tree) (e : Refusal) → SidesAre columns n stack (Err e) → asked columns n stack difference_record ≡ refuse e
-  difference_short [] e s = rw s
-  difference_short (x ∷ []) e s = rw s
-  difference_short (x ∷ (y ∷ below)) e s = absurd s
-
-  -- where two relations are on top
   module _ (s : Sides) where
-    pub product_wide : (stack : List Tree) → SidesAre columns n stack (Ok s) → 8 < length (kinds_in s.left.kinds) + length (kinds_in s.right.kinds) → asked columns n stack product_record ≡ refuse (ProductTooWide n)
-    product_wide [] t h = absurd t
-    product_wide (x ∷ []) t h = absurd t
-    product_wide (x ∷ (y ∷ below)) t h =
-        let a : leb (length (kinds_of columns y) + length (kinds_of columns x)) 8 ≡ false = lt-leb _ _ (omega (arith, ap length t.known_left, ap length t.known_right)) in
-        rw a
+    pub two_refused :
+        (stack : List Tree) (e : Refusal) → SidesAre columns n stack (Ok s) →
+        ((x y : Tree) (next : Outcome (List Tree)) → kinds_in s.left.kinds ≡ kinds_of columns y → kinds_in s.right.kinds ≡ kinds_of columns x → put columns n (make y x) chain next ≡ refuse e) →
+        put_on columns n (of_two make) stack ≡ refuse e
+    two_refused [] e t fails = absurd t
+    two_refused (x ∷ []) e t fails = absurd t
+    two_refused (x ∷ (y ∷ below)) e t fails = fails x y (done (make y x ∷ below)) t.known_left t.known_right
 
-    pub product_grew : (stack : List Tree) (step : Step) → SidesAre columns n stack (Ok s) → length (kinds_in s.left.kinds) + length (kinds_in s.right.kinds) ≤ 8 → step.left ≡ s.number → step.start ≡ s.left.start → kinds_in step.kinds ≡ kinds_in s.left.kinds ++ kinds_in s.right.kinds → Grew columns stack step product_record (asked columns n stack product_record)
-    product_grew [] step t h f g d = absurd t
-    product_grew (x ∷ []) step t h f g d = absurd t
-    product_grew (x ∷ (y ∷ below)) step t h f g d =
-        let a : leb (length (kinds_of columns y) + length (kinds_of columns x)) 8 ≡ true = le-leb _ _ (omega (arith, ap length t.known_left, ap length t.known_right)) in
+    pub two_grew :
+        (says : Record) → Makes says (of_two make) →
+        (stack : List Tree) (step : Step) → SidesAre columns n stack (Ok s) → step.left ≡ s.number → step.start ≡ s.left.start →
+        ((x y : Tree) → kinds_in s.left.kinds ≡ kinds_of columns y → kinds_in s.right.kinds ≡ kinds_of columns x → (answered columns (make y x) chain ≡ true) × (kinds_in step.kinds ≡ kinds_of columns (make y x))) →
+        Grew columns stack step says (put_on columns n (of_two make) stack)
+    two_grew says so [] step t l s passes = absurd t
+    two_grew says so (x ∷ []) step t l s passes = absurd t
+    two_grew says so (x ∷ (y ∷ below)) step t l g passes =
+        let k = passes x y t.known_left t.known_right in
+        let m = so y x in
         record {
-          top = product y x;
+          top = make y x;
           below = below;
-          is = rw a;
-          adds = two-laid x y below (product y x);
-          said = refl;
-          parted = two-parted x y below step.left (f ∙ t.numbered);
-          begins = two-begins x y below (product y x) step.start refl (g ∙ t.begins);
-          known = d ∙ ap (λ ks. ks ++ kinds_in s.right.kinds) t.known_left ∙ ap (λ ks. kinds_of columns y ++ ks) t.known_right;
+          is = put_passes columns n (make y x) (done (make y x ∷ below)) chain k.0;
+          adds = ap (λ l. laid below ++ l) m.1 ∙ two-laid x y below (make y x);
+          said = m.0;
+          parted = subst (λ (ps : List Tree). PartsAt (laid (x ∷ (y ∷ below))) (length (laid (x ∷ (y ∷ below)))) step.left ps) (sym m.2) (two-parted x y below step.left (l ∙ t.numbered));
+          begins =
+              omega
+              (arith, g, t.begins, ap length m.1, length_push (nodes y ++ nodes x) (make y x), length-append (nodes y) (nodes x), length-append (laid (y ∷ below)) (nodes x), length-append (laid below) (nodes y));
+          known = k.1;
         }
 
-    -- A union and a difference.
-    alike : (x y : Tree) (below : List Tree) (b : Bool) → SidesOf columns below y x s → b ≡ pairwise same_kind (kinds_in s.left.kinds) (kinds_in s.right.kinds) → pairwise same_kind (kinds_of columns y) (kinds_of columns x) ≡ b
-    alike x y below b t h = sym (h ∙ ap (λ ks. pairwise same_kind ks (kinds_in s.right.kinds)) t.known_left ∙ ap (λ ks. pairwise same_kind (kinds_of columns y) ks) t.known_right)
+-- The questions put to each kind of record, by the kinds of its parts.
+module _ (columns : List (List Column)) (n : ℕ) {X : Type 0} (next : Outcome X) where
+  pub select_unnamed : (c : Condition) (x : Tree) (kinds : List Kind) → kinds ≡ kinds_of columns x → false ≡ every_comparison (named_comparison kinds) c → put columns n (select c x) chain next ≡ refuse (NoSuchName n)
+  select_unnamed c x kinds k e =
+      let a : every_comparison (named_comparison (kinds_of columns x)) c ≡ false = sym (e ∙ ap (λ ks. every_comparison (named_comparison ks) c) k) in
+      rw a
 
-    pub union_unfit : (stack : List Tree) → SidesAre columns n stack (Ok s) → false ≡ pairwise same_kind (kinds_in s.left.kinds) (kinds_in s.right.kinds) → asked columns n stack union_record ≡ refuse (Unfit n)
-    union_unfit [] t h = absurd t
-    union_unfit (x ∷ []) t h = absurd t
-    union_unfit (x ∷ (y ∷ below)) t h = rw (alike x y below false t h)
+  pub select_unfit : (c : Condition) (x : Tree) (kinds : List Kind) → kinds ≡ kinds_of columns x → true ≡ every_comparison (named_comparison kinds) c → false ≡ every_comparison (fitting_comparison kinds) c → put columns n (select c x) chain next ≡ refuse (Unfit n)
+  select_unfit c x kinds k e f =
+      let a : every_comparison (named_comparison (kinds_of columns x)) c ≡ true = sym (e ∙ ap (λ ks. every_comparison (named_comparison ks) c) k) in
+      let b : every_comparison (fitting_comparison (kinds_of columns x)) c ≡ false = sym (f ∙ ap (λ ks. every_comparison (fitting_comparison ks) c) k) in
+      rw (a, b)
 
-    pub difference_unfit : (stack : List Tree) → SidesAre columns n stack (Ok s) → false ≡ pairwise same_kind (kinds_in s.left.kinds) (kinds_in s.right.kinds) → asked columns n stack difference_record ≡ refuse (Unfit n)
-    difference_unfit [] t h = absurd t
-    difference_unfit (x ∷ []) t h = absurd t
-    difference_unfit (x ∷ (y ∷ below)) t h = rw (alike x y below false t h)
+  pub project_unnamed : (cs : List ℕ) (x : Tree) (kinds : List Kind) → kinds ≡ kinds_of columns x → among kinds cs ≡ false → put columns n (project cs x) chain next ≡ refuse (NoSuchName n)
+  project_unnamed cs x kinds k e = let a : among (kinds_of columns x) cs ≡ false = sym (ap (λ ks. among ks cs) k) ∙ e in rw a
 
-    module _ (step : Step) (left : step.left ≡ s.number) (start : step.start ≡ s.left.start) (kept : step.kinds ≡ s.left.kinds) where
-      pub union_grew : (stack : List Tree) → SidesAre columns n stack (Ok s) → true ≡ pairwise same_kind (kinds_in s.left.kinds) (kinds_in s.right.kinds) → Grew columns stack step union_record (asked columns n stack union_record)
-      union_grew [] t h = absurd t
-      union_grew (x ∷ []) t h = absurd t
-      union_grew (x ∷ (y ∷ below)) t h =
-          let a = alike x y below true t h in
-          record {
-            top = union y x;
-            below = below;
-            is = rw a;
-            adds = two-laid x y below (union y x);
-            said = refl;
-            parted = two-parted x y below step.left (left ∙ t.numbered);
-            begins = two-begins x y below (union y x) step.start refl (start ∙ t.begins);
-            known = ap kinds_in kept ∙ t.known_left;
-          }
+  pub product_wide : (x y : Tree) (left right : List Kind) → left ≡ kinds_of columns y → right ≡ kinds_of columns x → 8 < length left + length right → put columns n (product y x) chain next ≡ refuse (ProductTooWide n)
+  product_wide x y left right l r h =
+      let a : leb (length (kinds_of columns y) + length (kinds_of columns x)) 8 ≡ false = lt-leb _ _ (omega (arith, ap length l, ap length r)) in
+      rw a
 
-      pub difference_grew : (stack : List Tree) → SidesAre columns n stack (Ok s) → true ≡ pairwise same_kind (kinds_in s.left.kinds) (kinds_in s.right.kinds) → Grew columns stack step difference_record (asked columns n stack difference_record)
-      difference_grew [] t h = absurd t
-      difference_grew (x ∷ []) t h = absurd t
-      difference_grew (x ∷ (y ∷ below)) t h =
-          let a = alike x y below true t h in
-          record {
-            top = difference y x;
-            below = below;
-            is = rw a;
-            adds = two-laid x y below (difference y x);
-            said = refl;
-            parted = two-parted x y below step.left (left ∙ t.numbered);
-            begins = two-begins x y below (difference y x) step.start refl (start ∙ t.begins);
-            known = ap kinds_in kept ∙ t.known_left;
-          }
+module _ (columns : List (List Column)) where
+  pub select_passes : (c : Condition) (x : Tree) (kinds : List Kind) → kinds ≡ kinds_of columns x → true ≡ every_comparison (named_comparison kinds) c → true ≡ every_comparison (fitting_comparison kinds) c → answered columns (select c x) chain ≡ true
+  select_passes c x kinds k e f =
+      let a : every_comparison (named_comparison (kinds_of columns x)) c ≡ true = sym (e ∙ ap (λ ks. every_comparison (named_comparison ks) c) k) in
+      let b : every_comparison (fitting_comparison (kinds_of columns x)) c ≡ true = sym (f ∙ ap (λ ks. every_comparison (fitting_comparison ks) c) k) in
+      rw (a, b)
+
+  pub project_passes : (cs : List ℕ) (x : Tree) (kinds : List Kind) → kinds ≡ kinds_of columns x → among kinds cs ≡ true → answered columns (project cs x) chain ≡ true
+  project_passes cs x kinds k e = let a : among (kinds_of columns x) cs ≡ true = sym (ap (λ ks. among ks cs) k) ∙ e in rw a
+
+  pub product_passes : (x y : Tree) (left right : List Kind) → left ≡ kinds_of columns y → right ≡ kinds_of columns x → length left + length right ≤ 8 → answered columns (product y x) chain ≡ true
+  product_passes x y left right l r h =
+      let a : leb (length (kinds_of columns y) + length (kinds_of columns x)) 8 ≡ true = le-leb _ _ (omega (arith, ap length l, ap length r)) in
+      rw a
+
+  -- a union's parts and a difference's have to be alike
+  alike : (x y : Tree) (left right : List Kind) (b : Bool) → left ≡ kinds_of columns y → right ≡ kinds_of columns x → b ≡ pairwise same_kind left right → pairwise same_kind (kinds_of columns y) (kinds_of columns x) ≡ b
+  alike x y left right b l r h = sym (h ∙ ap (λ ks. pairwise same_kind ks right) l ∙ ap (λ ks. pairwise same_kind (kinds_of columns y) ks) r)
+
+  pub alike_passes : (x y : Tree) (left right : List Kind) → left ≡ kinds_of columns y → right ≡ kinds_of columns x → true ≡ pairwise same_kind left right → (pairwise same_kind (kinds_of columns y) (kinds_of columns x) && true) ≡ true
+  alike_passes x y left right l r h = rw (alike x y left right true l r h)
+
+  pub alike_unfit : {X : Type 0} (n : ℕ) (next : Outcome X) (x y : Tree) (left right : List Kind) → left ≡ kinds_of columns y → right ≡ kinds_of columns x → false ≡ pairwise same_kind left right → question (pairwise same_kind (kinds_of columns y) (kinds_of columns x)) (Unfit n) next ≡ refuse (Unfit n)
+  alike_unfit n next x y left right l r h = rw (alike x y left right false l r h)
 
 -- One more record in a plan.
 got_push : {X : Type 0} (xs : List X) (y : X) (i : ℕ) (x : X) → Some x ≡ slice_get (xs ++ y ∷ []) i → (Some x ≡ slice_get xs i) ⊎ ((i ≡ length xs) × (x ≡ y))
@@ -313,21 +272,11 @@ got_push [] y (suc i) x h = absurd (let z : ◌≡◌ {A = ℕ} 0 1 = cc in omeg
 got_push (z ∷ xs) y zero x h = inl h
 got_push (z ∷ xs) y (suc i) x h = ⊎_elim inl (λ (p : (i ≡ length xs) × (x ≡ y)). inr (ap suc p.0, p.1)) (got_push xs y i x h)
 
-parted-more : (qs ys : List Tree) (i left : ℕ) (q : Tree) → i < length qs → Parted qs i left q → Parted (qs ++ ys) i left q
-parted-more qs ys i left (table t) h p = tt
-parted-more qs ys i left (select c q) h p = (p.0, p.1 ∙ sym (get_or_append_left qs ys (table 0) left (omega (arith, p.0))))
-parted-more qs ys i left (project cs q) h p = (p.0, p.1 ∙ sym (get_or_append_left qs ys (table 0) left (omega (arith, p.0))))
-parted-more qs ys i left (product q r) h p = (p.0, p.1 ∙ sym (get_or_append_left qs ys (table 0) left (omega (arith, p.0))), p.2, p.3 ∙ sym (get_or_append_left qs ys (table 0) (i - 1) (omega arith)))
-parted-more qs ys i left (union q r) h p = (p.0, p.1 ∙ sym (get_or_append_left qs ys (table 0) left (omega (arith, p.0))), p.2, p.3 ∙ sym (get_or_append_left qs ys (table 0) (i - 1) (omega arith)))
-parted-more qs ys i left (difference q r) h p = (p.0, p.1 ∙ sym (get_or_append_left qs ys (table 0) left (omega (arith, p.0))), p.2, p.3 ∙ sym (get_or_append_left qs ys (table 0) (i - 1) (omega arith)))
-
-parted-last : (qs ys : List Tree) (left : ℕ) (q : Tree) → Parted qs (length qs) left q → Parted (qs ++ ys) (length qs) left q
-parted-last qs ys left (table t) p = tt
-parted-last qs ys left (select c q) p = (p.0, p.1 ∙ sym (get_or_append_left qs ys (table 0) left p.0))
-parted-last qs ys left (project cs q) p = (p.0, p.1 ∙ sym (get_or_append_left qs ys (table 0) left p.0))
-parted-last qs ys left (product q r) p = (p.0, p.1 ∙ sym (get_or_append_left qs ys (table 0) left p.0), p.2, p.3 ∙ sym (get_or_append_left qs ys (table 0) (length qs - 1) (omega (arith, p.2))))
-parted-last qs ys left (union q r) p = (p.0, p.1 ∙ sym (get_or_append_left qs ys (table 0) left p.0), p.2, p.3 ∙ sym (get_or_append_left qs ys (table 0) (length qs - 1) (omega (arith, p.2))))
-parted-last qs ys left (difference q r) p = (p.0, p.1 ∙ sym (get_or_append_left qs ys (table 0) left p.0), p.2, p.3 ∙ sym (get_or_append_left qs ys (table 0) (length qs - 1) (omega (arith, p.2))))
+parted-more : (qs ys : List Tree) (i left : ℕ) (parts : List Tree) → i ≤ length qs → PartsAt qs i left parts → PartsAt (qs ++ ys) i left parts
+parted-more qs ys i left [] h p = tt
+parted-more qs ys i left (q ∷ []) h p = (p.0, p.1 ∙ sym (get_or_append_left qs ys (table 0) left (omega (arith, p.0))))
+parted-more qs ys i left (q ∷ (r ∷ parts)) h p =
+    (p.0, p.1 ∙ sym (get_or_append_left qs ys (table 0) left (omega (arith, p.0))), p.2, p.3 ∙ sym (get_or_append_left qs ys (table 0) (i - 1) (omega (arith, p.2))))
 
 module _ (columns : List (List Column)) (bytes : List ℕ) where
   -- the records that were there
@@ -337,19 +286,19 @@ module _ (columns : List (List Column)) (bytes : List ℕ) where
       record {
         rest = n.rest;
         says = n.says ∙ ap (λ (q : Tree). done (record { says = record_of q; rest = n.rest })) e;
-        parted = subst (λ (q : Tree). Parted (qs ++ ys) i p.step.left q) e (parted-more qs ys i p.step.left (get_or qs i (table 0)) h n.parted);
+        parted = subst (λ (q : Tree). PartsAt (qs ++ ys) i p.step.left (parts_of q)) e (parted-more qs ys i p.step.left (parts_of (get_or qs i (table 0))) (omega arith) n.parted);
         begins = subst (λ (q : Tree). p.step.start + length (nodes q) ≡ i + 1) e n.begins;
         known = n.known ∙ ap (kinds_of columns) e;
       }
 
   -- the new one
-  node_last : (qs : List Tree) (q : Tree) (p : Planned) (rest : List ℕ) → first_said (length qs) (drop p.at bytes) ≡ done (record { says = record_of q; rest = rest }) → Parted qs (length qs) p.step.left q → p.step.start + length (nodes q) ≡ length qs + 1 → kinds_in p.step.kinds ≡ kinds_of columns q → NodeOf columns bytes (qs ++ q ∷ []) (length qs) p
+  node_last : (qs : List Tree) (q : Tree) (p : Planned) (rest : List ℕ) → next_said (length qs) (drop p.at bytes) ≡ done (record { says = record_of q; rest = rest }) → PartsAt qs (length qs) p.step.left (parts_of q) → p.step.start + length (nodes q) ≡ length qs + 1 → kinds_in p.step.kinds ≡ kinds_of columns q → NodeOf columns bytes (qs ++ q ∷ []) (length qs) p
   node_last qs q p rest s d b n =
       let e : q ≡ get_or (qs ++ q ∷ []) (length qs) (table 0) = sym (get_or_push qs q (table 0) (length qs) refl) in
       record {
         rest = rest;
         says = s ∙ ap (λ (x : Tree). done (record { says = record_of x; rest = rest })) e;
-        parted = subst (λ (x : Tree). Parted (qs ++ q ∷ []) (length qs) p.step.left x) e (parted-last qs (q ∷ []) p.step.left q d);
+        parted = subst (λ (x : Tree). PartsAt (qs ++ q ∷ []) (length qs) p.step.left (parts_of x)) e (parted-more qs (q ∷ []) (length qs) p.step.left (parts_of q) (omega arith) d);
         begins = subst (λ (x : Tree). p.step.start + length (nodes x) ≡ length qs + 1) e b;
         known = n ∙ ap (kinds_of columns) e;
       }
@@ -361,7 +310,7 @@ module _ (columns : List (List Column)) (bytes : List ℕ) where
       (before after : Plan) (stack : List Tree) (step : Step) (at : ℕ) (says : Record) (rest : List ℕ) (o : Outcome (List Tree)) →
       planned_in after ≡ planned_in before ++ record { at = at; step = step } ∷ [] →
       Plans columns bytes before (laid stack) → (grew : Grew columns stack step says o) →
-      first_said (record_count before) (drop at bytes) ≡ done (record { says = says; rest = rest }) →
+      next_said (record_count before) (drop at bytes) ≡ done (record { says = says; rest = rest }) →
       Plans columns bytes after (laid (grew.top ∷ grew.below))
   plans_more before after stack step at says rest o more plans grew said =
       let n : record_count before ≡ length (laid stack) = plans.counted in
@@ -378,8 +327,8 @@ module _ (columns : List (List Column)) (bytes : List ℕ) where
             let h = slice_get_within (planned_in before) i p (sym old) in
             node_more qs (q ∷ []) i p (omega arith) (plans.each i p old))
             (λ (last : (i ≡ record_count before) × (p ≡ new)).
-            let spoken : first_said (length qs) (drop at bytes) ≡ done (record { says = record_of q; rest = rest }) =
-            ap (λ m. first_said m (drop at bytes)) (sym n) ∙ said ∙ ap (λ (r : Record). done (record { says = r; rest = rest })) (sym grew.said) in
+            let spoken : next_said (length qs) (drop at bytes) ≡ done (record { says = record_of q; rest = rest }) =
+            ap (λ m. next_said m (drop at bytes)) (sym n) ∙ said ∙ ap (λ (r : Record). done (record { says = r; rest = rest })) (sym grew.said) in
             subst (λ (x : Planned). NodeOf columns bytes (qs ++ q ∷ []) i x) (sym last.1)
             (subst (λ (j : ℕ). NodeOf columns bytes (qs ++ q ∷ []) j new) (sym (last.0 ∙ n))
             (node_last qs q new rest spoken grew.parted grew.begins grew.known)))

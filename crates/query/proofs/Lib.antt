@@ -1,11 +1,4 @@
-pub mod Numbers
-pub mod Firsts
-pub mod Forms
-pub mod Depths
-pub mod Steps
-pub mod Reading
 pub mod Widths
-pub mod Leading
 pub mod Asking
 pub mod Laying
 pub mod Checking

@@ -1,5 +1,5 @@
 -- The kinds that a structure of the code stands for.
-use Rattle.std.specs.Prelude.{◌≡◌, ℕ, Bool, true, false, List, map, length, Some, None, Option, nat_lt}
+use Rattle.std.specs.Prelude.{◌≡◌, ℕ, ◌+◌, ◌<◌, ◌≤◌, Bool, true, false, List, ◌++◌, map, length, Some, None, Option, nat_lt}
 use Rattle.semantics.specs.declared.kind.Kind.{Kind}
 use Rattle.semantics.specs.Conditions.{kind_at}
 use Rattle.semantics.specs.Lists.{every}
@@ -13,6 +13,11 @@ kinds_in k = items k.list
 -- Are the columns with these numbers among the columns of these kinds?
 abbrev pub among : List Kind → List ℕ → Bool
 among kinds columns = every (λ c. nat_lt c (length kinds)) columns
+
+-- The kinds of two relations side by side, or none where they are more than 8.
+abbrev pub JoinedIs : List Kind → List Kind → Option Kinds → Type 0
+JoinedIs left right (Some r) = (kinds_in r ≡ left ++ right) × (length left + length right ≤ 8)
+JoinedIs left right None = 8 < length left + length right
 
 -- The kinds of the columns with these numbers, or none where one of them does not exist.
 abbrev pub PickedIs : List Kind → List ℕ → Option Kinds → Type 0

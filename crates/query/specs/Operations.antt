@@ -8,8 +8,8 @@ use Rattle.semantics.specs.Queries.{Tree}
 use Rattle.semantics.specs.Reading.{condition_form}
 use Rattle.query.specs.declared.operation.Operation.{Operation}
 use Rattle.query.specs.declared.operation.Operation.TheVariants.{Table, Select, Project, Product, Union, Difference}
-use Rattle.query.specs.declared.record.Record.{Record}
-use Rattle.query.specs.declared.record.Record.TheVariants as said
+use Rattle.records.specs.declared.record.Record.{Record}
+use Rattle.records.specs.declared.record.Record.TheVariants as said
 
 -- Relation number `i`.
 abbrev pub relation : List Tree → ℕ → Tree

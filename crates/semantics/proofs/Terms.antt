@@ -12,13 +12,13 @@ use Rattle.semantics.specs.Conditions.{Comparison, by_column, by_number, by_pref
 use Rattle.semantics.specs.Lists.{every}
 use Rattle.semantics.specs.Operators.{operator_number, operator_from}
 use Rattle.semantics.specs.Outcomes.{Outcome, done, refuse, found, and_then}
-use Rattle.semantics.specs.Reading.{empty_form, column_side, number_side, prefix_side, comparison_form, term_form, combined, term_step, term_faults, condition_form}
+use Rattle.semantics.specs.Reading.{empty_form, column_side, number_side, prefix_side, comparison_form, term_form, combined, term_faults, condition_form}
 use Rattle.semantics.specs.Values.{is_digit}
 use Rattle.semantics.proofs.Bytes.{four-back, four-again}
 use Rattle.semantics.proofs.Every.{every_append}
 use Rattle.semantics.proofs.Outcomes.{refuse_not, then-done, found-done, question-done, cond_ways}
 use Rattle.semantics.proofs.Pieces.{every-apart, joined_append}
-use Rattle.semantics.proofs.Walking.{Reads, reads_none, reads-one, reads_two, reads_all, Stepped, puts_none, puts_one, puts-two, Walked, walk-back}
+use Rattle.semantics.proofs.Walking.{Goes, Reads, reads_none, reads-one, reads_two, reads_all, Stepped, puts_none, puts_one, puts-two, Walked, walk-back}
 
 -- operators and their numbers
 pub operator_back : (op : Operator) → operator_from (operator_number op) ≡ Some op
@@ -163,35 +163,35 @@ good c = every formed_term (terms c)
 
 module _ (e : Refusal) where
   -- a term is put to the conditions on the stack
-  stepped : (t : Term) (n : ℕ) (stack next : List Condition) → formed_term t ≡ true → combined e t stack ≡ done next → term_step e n (term_number t) (term_body t) stack ≡ done next
-  stepped t n stack next h c = ap (λ o. and_then o (λ term. combined e term stack)) (form_of e t h) ∙ c
+  stepped : (t : Term) (n : ℕ) (stack next : List Condition) → formed_term t ≡ true → combined e t stack ≡ done next → Goes (term_faults e) (λ n. term_form e) (λ n. combined e) condition_bytes term_count n (term_number t) (term_body t) stack next
+  stepped t n stack next h c = (t, form_of e t h, c)
 
-  pub reads_condition : (c : Condition) → good c ≡ true → Reads (term_faults e) (term_step e) condition_bytes term_count c
+  pub reads_condition : (c : Condition) → good c ≡ true → Reads (term_faults e) (λ n. term_form e) (λ n. combined e) condition_bytes term_count c
   unfolding condition_bytes
   reads_condition (compared k) h =
       let f = and_parts (formed_comparison k) true h in
-      reads_none (term_faults e) (term_step e) condition_bytes term_count (compared k) (comparison_number k) (comparison_body k)
+      reads_none (term_faults e) (λ n. term_form e) (λ n. combined e) condition_bytes term_count (compared k) (comparison_number k) (comparison_body k)
       (λ n stack. stepped (comparing k) n stack (compared k ∷ stack) f.0 refl) (bytes-none k) refl
   reads_condition (conjunction c d) h =
       let p = every-apart formed_term (terms c ++ terms d) (conjoining ∷ []) h in
       let q = every-apart formed_term (terms c) (terms d) p.0 in
-      reads_two (term_faults e) (term_step e) condition_bytes term_count (conjunction c d) 0x13 [] c d
+      reads_two (term_faults e) (λ n. term_form e) (λ n. combined e) condition_bytes term_count (conjunction c d) 0x13 [] c d
       (λ n stack. stepped conjoining n (d ∷ (c ∷ stack)) (conjunction c d ∷ stack) refl refl) (bytes-two c d conjoining) (count-two c d conjoining)
       (reads_condition c q.0) (reads_condition d q.1)
   reads_condition (disjunction c d) h =
       let p = every-apart formed_term (terms c ++ terms d) (disjoining ∷ []) h in
       let q = every-apart formed_term (terms c) (terms d) p.0 in
-      reads_two (term_faults e) (term_step e) condition_bytes term_count (disjunction c d) 0x14 [] c d
+      reads_two (term_faults e) (λ n. term_form e) (λ n. combined e) condition_bytes term_count (disjunction c d) 0x14 [] c d
       (λ n stack. stepped disjoining n (d ∷ (c ∷ stack)) (disjunction c d ∷ stack) refl refl) (bytes-two c d disjoining) (count-two c d disjoining)
       (reads_condition c q.0) (reads_condition d q.1)
   reads_condition (negation c) h =
       let p = every-apart formed_term (terms c) (negating ∷ []) h in
-      reads-one (term_faults e) (term_step e) condition_bytes term_count (negation c) 0x15 [] c
+      reads-one (term_faults e) (λ n. term_form e) (λ n. combined e) condition_bytes term_count (negation c) 0x15 [] c
       (λ n stack. stepped negating n (c ∷ stack) (negation c ∷ stack) refl refl) (bytes_one c negating) (count-one c negating)
       (reads_condition c p.0)
 
   abbrev Made : ℕ → List ℕ → List Condition → List Condition → Type 0
-  Made kind body stack next = Stepped (term_faults e) (term_step e) condition_bytes term_count good kind body stack next
+  Made kind body stack next = Stepped (term_faults e) (λ n. term_form e) (λ n. combined e) condition_bytes term_count good kind body stack next
 
   two_good : (c d : Condition) (stack : List Condition) (t : Term) → formed_term t ≡ true → every good (d ∷ (c ∷ stack)) ≡ true → every formed_term ((terms c ++ terms d) ++ t ∷ []) ≡ true
   two_good c d stack t f all =
@@ -203,26 +203,25 @@ module _ (e : Refusal) where
   combined-back : (t : Term) (stack next : List Condition) → formed_term t ≡ true → every good stack ≡ true → combined e t stack ≡ done next → Made (term_number t) (term_body t) stack next
   unfolding condition_bytes
   combined-back (comparing k) stack next h all d =
-      puts_none (term_faults e) (term_step e) condition_bytes term_count good (comparison_number k) (comparison_body k) stack next (compared k)
+      puts_none (term_faults e) (λ n. term_form e) (λ n. combined e) condition_bytes term_count good (comparison_number k) (comparison_body k) stack next (compared k)
       (and_from (formed_comparison k) true h refl) all d (bytes-none k) refl
   combined-back conjoining [] next h all d = absurd (refuse_not e next d)
   combined-back conjoining (y ∷ []) next h all d = absurd (refuse_not e next d)
   combined-back conjoining (y ∷ (x ∷ stack)) next h all d =
-      puts-two (term_faults e) (term_step e) condition_bytes term_count good 0x13 [] stack next (conjunction x y)
+      puts-two (term_faults e) (λ n. term_form e) (λ n. combined e) condition_bytes term_count good 0x13 [] stack next (conjunction x y)
       (two_good x y stack conjoining refl all) x y all d (bytes-two x y conjoining) (count-two x y conjoining)
   combined-back disjoining [] next h all d = absurd (refuse_not e next d)
   combined-back disjoining (y ∷ []) next h all d = absurd (refuse_not e next d)
   combined-back disjoining (y ∷ (x ∷ stack)) next h all d =
-      puts-two (term_faults e) (term_step e) condition_bytes term_count good 0x14 [] stack next (disjunction x y)
+      puts-two (term_faults e) (λ n. term_form e) (λ n. combined e) condition_bytes term_count good 0x14 [] stack next (disjunction x y)
       (two_good x y stack disjoining refl all) x y all d (bytes-two x y disjoining) (count-two x y disjoining)
   combined-back negating [] next h all d = absurd (refuse_not e next d)
   combined-back negating (x ∷ stack) next h all d =
-      puts_one (term_faults e) (term_step e) condition_bytes term_count good 0x15 [] stack next (negation x)
+      puts_one (term_faults e) (λ n. term_form e) (λ n. combined e) condition_bytes term_count good 0x15 [] stack next (negation x)
       (every_append formed_term (terms x) (negating ∷ []) (and_parts (good x) (every good stack) all).0 refl) x all d (bytes_one x negating) (count-one x negating)
 
-  steps : (n kind : ℕ) (body : List ℕ) (stack next : List Condition) → every is_byte body ≡ true → every good stack ≡ true → term_step e n kind body stack ≡ done next → Made kind body stack next
-  steps n kind body stack next bs all d =
-      let p = then-done (term_form e kind body) (λ term. combined e term stack) next d in
+  steps : (n kind : ℕ) (body : List ℕ) (stack next : List Condition) → every is_byte body ≡ true → every good stack ≡ true → Goes (term_faults e) (λ n. term_form e) (λ n. combined e) condition_bytes term_count n kind body stack next → Made kind body stack next
+  steps n kind body stack next bs all p =
       let t : Term = p.0 in
       let s : Said e kind body t = form-back e kind body t bs p.1 in
       let m : Made (term_number t) (term_body t) stack next = combined-back t stack next s.formed all p.2 in
@@ -233,10 +232,10 @@ module _ (e : Refusal) where
   condition_of c h =
       let p = and_parts (leb (term_count c) 15) (good c) h in
       let l : term_count c ≤ 15 = leb-true _ _ p.0 in
-      reads_all (term_faults e) (term_step e) condition_bytes term_count c 15 (15 - term_count c) 0 (reads_condition c p.1) (omega arith)
+      reads_all (term_faults e) (λ n. term_form e) (λ n. combined e) condition_bytes term_count c 15 (15 - term_count c) 0 (reads_condition c p.1) (omega arith)
 
   -- What is read is of the right form, and the bytes are its.
   pub condition_back : (body : List ℕ) (c : Condition) → every is_byte body ≡ true → condition_form e body ≡ done c → (formed_condition c ≡ true) × (condition_bytes c ≡ body)
   condition_back body c bs d =
-      let w : Walked (term_faults e) (term_step e) condition_bytes term_count good 15 [] body c = walk-back (term_faults e) (term_step e) condition_bytes term_count good steps 15 0 [] body c bs refl d in
+      let w : Walked (term_faults e) (λ n. term_form e) (λ n. combined e) condition_bytes term_count good 15 [] body c = walk-back (term_faults e) (λ n. term_form e) (λ n. combined e) condition_bytes term_count good steps 15 0 [] body c bs refl d in
       (and_from (leb (term_count c) 15) (good c) (le-leb _ _ (omega (arith, w.few))) w.fine, sym w.wrote)

@@ -3,23 +3,75 @@ use Rattle.std.proofs.Common.{◌≡◌, ℕ, ◌+◌, ◌-◌, ◌≤◌, Bool,
 use Rattle.std.specs.List.{flat_map}
 use Rattle.std.proofs.lemmas.List.{append-nil, length-append}
 use Rattle.std.proofs.lemmas.Bool.{and_parts, and_from, eqb-true, leb-true, le-leb}
-use Rattle.std.proofs.lemmas.Bool.Decides.{nat_tests}
 use Rattle.semantics.specs.declared.kind.Column.{Column}
 use Rattle.semantics.specs.declared.refusal.Refusal.{Refusal}
-use Rattle.semantics.specs.declared.refusal.Refusal.TheVariants.{QueryLength, UnknownRecord, WrongForm, StackShort, NoSuchName, Unfit, ProductTooWide}
-use Rattle.semantics.specs.Bytes.{is_byte}
-use Rattle.semantics.specs.Conditions.{Condition, condition_bytes, formed_condition}
+use Rattle.semantics.specs.declared.refusal.Refusal.TheVariants.{QueryLength, UnknownRecord, WrongForm, StackShort}
+use Rattle.semantics.specs.Bytes.{is_byte, record_bytes}
+use Rattle.semantics.specs.Conditions.{Condition, formed_condition}
 use Rattle.semantics.specs.Lists.{every}
 use Rattle.semantics.specs.Outcomes.{Outcome, done, refuse, question, and_then}
-use Rattle.semantics.specs.Queries.{Tree, table, select, project, product, union, difference, nodes, formed, named, fitted, narrow, proper, well_formed}
+use Rattle.semantics.specs.Queries.{Tree, table, select, project, product, union, difference, nodes, parts_of, formed, Question, chain, answered, proper, well_formed}
 use Rattle.semantics.specs.Records.{Record, table_record, select_record, project_record, product_record, union_record, difference_record, record_of, record_number, record_body, own_bytes, encode}
-use Rattle.semantics.specs.Reading.{empty_form, condition_form, table_form, record_form, Grown, grown, record_step, query_faults, questions, Query, ReadsExactly, ReadsOneWay}
-use Rattle.semantics.specs.Walks.{walk}
+use Rattle.semantics.specs.Reading.{empty_form, condition_form, table_form, record_form, said_by, Making, alone, of_one, of_two, making, Grown, grown, put, asked, query_faults, query_walk, questions, Query, ReadsExactly, ReadsOneWay}
 use Rattle.semantics.proofs.Every.{every_append}
 use Rattle.semantics.proofs.Outcomes.{refuse_not, then-done, question-done, cond_ways}
 use Rattle.semantics.proofs.Pieces.{every-apart, joined_append}
 use Rattle.semantics.proofs.Terms.{condition_of, condition_back}
-use Rattle.semantics.proofs.Walking.{Reads, reads_none, reads-one, reads_two, reads_all, Stepped, puts_none, puts_one, puts-two, Walked, walk-back}
+use Rattle.semantics.proofs.Walking.{Goes, Reads, reads_none, reads-one, reads_two, reads_all, Stepped, puts_none, puts_one, puts-two, Walked, walk-back}
+
+-- questions let a relation pass exactly when each is answered with "yes"
+module _ {X : Type 0} (columns : List (List Column)) (n : ℕ) (q : Tree) (next : Outcome X) where
+  pub put_passes : (questions : List Question) → answered columns q questions ≡ true → put columns n q questions next ≡ next
+  put_passes [] h = refl
+  put_passes (k ∷ questions) h =
+      let p = and_parts (k.asks columns q) (answered columns q questions) h in
+      ap (λ b. question b (k.refusal n) (put columns n q questions next)) p.0 ∙ put_passes questions p.1
+
+  pub put_passed : (questions : List Question) (x : X) → put columns n q questions next ≡ done x → (answered columns q questions ≡ true) × (next ≡ done x)
+  put_passed [] x h = (refl, h)
+  put_passed (k ∷ questions) x h =
+      let a = question-done (k.asks columns q) (k.refusal n) (put columns n q questions next) x h in
+      let p = put_passed questions x a.1 in
+      (and_from (k.asks columns q) (answered columns q questions) a.0 p.0, p.1)
+
+-- a relation stands after its parts, and has the record that makes it
+pub nodes_end : (q : Tree) → (below : List Tree) × (nodes q ≡ below ++ q ∷ [])
+nodes_end (table t) = ([], refl)
+nodes_end (select c q) = (nodes q, refl)
+nodes_end (project cs q) = (nodes q, refl)
+nodes_end (product q r) = (nodes q ++ nodes r, refl)
+nodes_end (union q r) = (nodes q ++ nodes r, refl)
+nodes_end (difference q r) = (nodes q ++ nodes r, refl)
+
+abbrev pub Makes : Record → Making → Type 0
+Makes s (alone q) = (record_of q ≡ s) × (nodes q ≡ q ∷ []) × (parts_of q ≡ [])
+Makes s (of_one make) = (q : Tree) → (record_of (make q) ≡ s) × (nodes (make q) ≡ nodes q ++ make q ∷ []) × (parts_of (make q) ≡ q ∷ [])
+Makes s (of_two make) = (q r : Tree) → (record_of (make q r) ≡ s) × (nodes (make q r) ≡ (nodes q ++ nodes r) ++ make q r ∷ []) × (parts_of (make q r) ≡ q ∷ r ∷ [])
+
+pub makes : (s : Record) → Makes s (making s)
+makes (table_record t) = (refl, refl, refl)
+makes (select_record c) = λ q. (refl, refl, refl)
+makes (project_record cs) = λ q. (refl, refl, refl)
+makes product_record = λ q r. (refl, refl, refl)
+makes union_record = λ q r. (refl, refl, refl)
+makes difference_record = λ q r. (refl, refl, refl)
+
+-- and the other way: its record makes it of its parts
+abbrev pub MadeOf : Making → List Tree → Tree → Type 0
+MadeOf (alone t) parts q = q ≡ t
+MadeOf (of_one make) [] q = ⊥
+MadeOf (of_one make) (l ∷ parts) q = q ≡ make l
+MadeOf (of_two make) [] q = ⊥
+MadeOf (of_two make) (l ∷ []) q = ⊥
+MadeOf (of_two make) (l ∷ (r ∷ parts)) q = q ≡ make l r
+
+pub made : (q : Tree) → MadeOf (making (record_of q)) (parts_of q) q
+made (table t) = refl
+made (select c q) = refl
+made (project cs q) = refl
+made (product q r) = refl
+made (union q r) = refl
+made (difference q r) = refl
 
 -- the form of a record, which a relation has from its own
 abbrev formed_record : Record → Bool
@@ -131,78 +183,60 @@ bytes-two q r s =
     ∙ ap (λ l. flat_map own_bytes (nodes q ++ nodes r) ++ l) (append-nil (own_bytes s))
     ∙ ap (λ l. l ++ own_bytes s) (joined_append own_bytes (nodes q) (nodes r))
 
-four-parts : (a b c d : Bool) → (a && b && c && d) ≡ true → (a ≡ true) × (b ≡ true) × (c ≡ true) × (d ≡ true)
-four-parts a b c d h = grind (arith, nat_tests)
-
 module _ (columns : List (List Column)) where
   abbrev good : Tree → Bool
   good q = well_formed columns q
 
-  proper-parts : (q : Tree) → proper columns q ≡ true → (formed q ≡ true) × (named columns q ≡ true) × (fitted columns q ≡ true) × (narrow columns q ≡ true)
-  proper-parts q h = four-parts (formed q) (named columns q) (fitted columns q) (narrow columns q) h
-
-  proper-from : (q : Tree) → formed q ≡ true → named columns q ≡ true → fitted columns q ≡ true → narrow columns q ≡ true → proper columns q ≡ true
-  proper-from q a b c d = rw (a, b, c, d)
-
-  -- what is asked of a relation on top of the stack, and before that of what its record says
-  abbrev fits : ℕ → Grown → Outcome (List Tree)
-  fits n next =
-      question (named columns next.top) (NoSuchName n)
-      (question (fitted columns next.top) (Unfit n)
-      (question (narrow columns next.top) (ProductTooWide n)
-      (done (next.top ∷ next.below))))
-
-  abbrev asks : ℕ → List Tree → Record → Outcome (List Tree)
-  asks n stack said = and_then (grown (StackShort n) said stack) (fits n)
-
   -- a relation whose record and parts go together is put on the stack
-  stepped : (q : Tree) (n : ℕ) (stack below : List Tree) → proper columns q ≡ true → grown (StackShort n) (record_of q) stack ≡ done (record { top = q; below = below }) → record_step columns n (record_number (record_of q)) (record_body (record_of q)) stack ≡ done (q ∷ below)
+  stepped : (q : Tree) (n : ℕ) (stack below : List Tree) → proper columns q ≡ true → grown (StackShort n) (making (record_of q)) stack ≡ done (record { top = q; below = below }) → Goes query_faults said_by (asked columns) encode size n (record_number (record_of q)) (record_body (record_of q)) stack (q ∷ below)
   stepped q n stack below h g =
-      let p = proper-parts q h in
+      let p = and_parts (formed q) (answered columns q chain) h in
       let s : Record = record_of q in
-      let f : formed_record s ≡ true = sym (formed-is q) ∙ p.0 in
-      ap (λ b. question b (UnknownRecord n) (and_then (record_form (WrongForm n) (record_number s) (record_body s)) (asks n stack))) (kind-known s)
-      ∙ ap (λ o. and_then o (asks n stack)) (record_of_lem (WrongForm n) s f)
-      ∙ ap (λ o. and_then o (fits n)) g
-      ∙ rw (p.1, p.2, p.3)
+      let f : formed_record s ≡ true = sym (formed-is q) ∙ p.0 in (
+        s,
+        ap (λ b. question b (UnknownRecord n) (record_form (WrongForm n) (record_number s) (record_body s))) (kind-known s) ∙ record_of_lem (WrongForm n) s f,
+        ap (λ o. and_then o (λ (next : Grown). put columns n next.top chain (done (next.top ∷ next.below)))) g
+            ∙ put_passes columns n q (done (q ∷ below)) chain p.1,
+      )
 
-  pub reads-tree : (q : Tree) → good q ≡ true → Reads query_faults (record_step columns) encode size q
+  abbrev ReadsTree : Tree → Type 0
+  ReadsTree q = Reads query_faults said_by (asked columns) encode size q
+
+  -- after its parts, of which it has none, one or two
+  reads_alone : (s : Tree) → nodes s ≡ s ∷ [] → ((e : Refusal) (stack : List Tree) → grown e (making (record_of s)) stack ≡ done (record { top = s; below = stack })) → good s ≡ true → ReadsTree s
   unfolding encode
-  reads-tree (table t) h =
-      let f = and_parts (proper columns (table t)) true h in
-      reads_none query_faults (record_step columns) encode size (table t) 1 (t ∷ [])
-      (λ n stack. stepped (table t) n stack stack f.0 refl) (bytes-none t) refl
-  reads-tree (select c q) h =
-      let p = every-apart (proper columns) (nodes q) (select c q ∷ []) h in
-      let f = and_parts (proper columns (select c q)) true p.1 in
-      reads-one query_faults (record_step columns) encode size (select c q) 2 (condition_bytes c) q
-      (λ n stack. stepped (select c q) n (q ∷ stack) stack f.0 refl) (bytes_one q (select c q)) (count-one q (select c q)) (reads-tree q p.0)
-  reads-tree (project cs q) h =
-      let p = every-apart (proper columns) (nodes q) (project cs q ∷ []) h in
-      let f = and_parts (proper columns (project cs q)) true p.1 in
-      reads-one query_faults (record_step columns) encode size (project cs q) 3 cs q
-      (λ n stack. stepped (project cs q) n (q ∷ stack) stack f.0 refl) (bytes_one q (project cs q)) (count-one q (project cs q)) (reads-tree q p.0)
-  reads-tree (product q r) h =
-      let p = every-apart (proper columns) (nodes q ++ nodes r) (product q r ∷ []) h in
-      let f = and_parts (proper columns (product q r)) true p.1 in
-      let k = every-apart (proper columns) (nodes q) (nodes r) p.0 in
-      reads_two query_faults (record_step columns) encode size (product q r) 4 [] q r
-      (λ n stack. stepped (product q r) n (r ∷ (q ∷ stack)) stack f.0 refl) (bytes-two q r (product q r)) (count-two q r (product q r)) (reads-tree q k.0) (reads-tree r k.1)
-  reads-tree (union q r) h =
-      let p = every-apart (proper columns) (nodes q ++ nodes r) (union q r ∷ []) h in
-      let f = and_parts (proper columns (union q r)) true p.1 in
-      let k = every-apart (proper columns) (nodes q) (nodes r) p.0 in
-      reads_two query_faults (record_step columns) encode size (union q r) 5 [] q r
-      (λ n stack. stepped (union q r) n (r ∷ (q ∷ stack)) stack f.0 refl) (bytes-two q r (union q r)) (count-two q r (union q r)) (reads-tree q k.0) (reads-tree r k.1)
-  reads-tree (difference q r) h =
-      let p = every-apart (proper columns) (nodes q ++ nodes r) (difference q r ∷ []) h in
-      let f = and_parts (proper columns (difference q r)) true p.1 in
-      let k = every-apart (proper columns) (nodes q) (nodes r) p.0 in
-      reads_two query_faults (record_step columns) encode size (difference q r) 6 [] q r
-      (λ n stack. stepped (difference q r) n (r ∷ (q ∷ stack)) stack f.0 refl) (bytes-two q r (difference q r)) (count-two q r (difference q r)) (reads-tree q k.0) (reads-tree r k.1)
+  reads_alone s n g h =
+      let f = and_parts (proper columns s) true (sym (ap (every (proper columns)) n) ∙ h) in
+      reads_none query_faults said_by (asked columns) encode size s (record_number (record_of s)) (record_body (record_of s))
+      (λ m stack. stepped s m stack stack f.0 (g (StackShort m) stack)) (ap (flat_map own_bytes) n ∙ append-nil (own_bytes s)) (ap length n)
 
-  abbrev Made : ℕ → List ℕ → List Tree → List Tree → Type 0
-  Made kind body stack next = Stepped query_faults (record_step columns) encode size good kind body stack next
+  reads_after_one : (s q : Tree) → nodes s ≡ nodes q ++ s ∷ [] → ((e : Refusal) (stack : List Tree) → grown e (making (record_of s)) (q ∷ stack) ≡ done (record { top = s; below = stack })) → good s ≡ true → (good q ≡ true → ReadsTree q) → ReadsTree s
+  unfolding encode
+  reads_after_one s q n g h read =
+      let p = every-apart (proper columns) (nodes q) (s ∷ []) (sym (ap (every (proper columns)) n) ∙ h) in
+      let f = and_parts (proper columns s) true p.1 in
+      reads-one query_faults said_by (asked columns) encode size s (record_number (record_of s)) (record_body (record_of s)) q
+      (λ m stack. stepped s m (q ∷ stack) stack f.0 (g (StackShort m) stack)) (ap (flat_map own_bytes) n ∙ bytes_one q s) (ap length n ∙ count-one q s) (read p.0)
+
+  reads_after_two : (s q r : Tree) → nodes s ≡ (nodes q ++ nodes r) ++ s ∷ [] → ((e : Refusal) (stack : List Tree) → grown e (making (record_of s)) (r ∷ (q ∷ stack)) ≡ done (record { top = s; below = stack })) → good s ≡ true → (good q ≡ true → ReadsTree q) → (good r ≡ true → ReadsTree r) → ReadsTree s
+  unfolding encode
+  reads_after_two s q r n g h left right =
+      let p = every-apart (proper columns) (nodes q ++ nodes r) (s ∷ []) (sym (ap (every (proper columns)) n) ∙ h) in
+      let f = and_parts (proper columns s) true p.1 in
+      let k = every-apart (proper columns) (nodes q) (nodes r) p.0 in
+      reads_two query_faults said_by (asked columns) encode size s (record_number (record_of s)) (record_body (record_of s)) q r
+      (λ m stack. stepped s m (r ∷ (q ∷ stack)) stack f.0 (g (StackShort m) stack)) (ap (flat_map own_bytes) n ∙ bytes-two q r s) (ap length n ∙ count-two q r s) (left k.0) (right k.1)
+
+  pub reads-tree : (q : Tree) → good q ≡ true → ReadsTree q
+  reads-tree (table t) h = reads_alone (table t) refl (λ e stack. refl) h
+  reads-tree (select c q) h = reads_after_one (select c q) q refl (λ e stack. refl) h (λ g. reads-tree q g)
+  reads-tree (project cs q) h = reads_after_one (project cs q) q refl (λ e stack. refl) h (λ g. reads-tree q g)
+  reads-tree (product q r) h = reads_after_two (product q r) q r refl (λ e stack. refl) h (λ g. reads-tree q g) (λ g. reads-tree r g)
+  reads-tree (union q r) h = reads_after_two (union q r) q r refl (λ e stack. refl) h (λ g. reads-tree q g) (λ g. reads-tree r g)
+  reads-tree (difference q r) h = reads_after_two (difference q r) q r refl (λ e stack. refl) h (λ g. reads-tree q g) (λ g. reads-tree r g)
+
+  abbrev Made : Record → List Tree → List Tree → Type 0
+  Made s stack next = Stepped query_faults said_by (asked columns) encode size good (record_number s) (record_body s) stack next
 
   one-good : (q s : Tree) (stack : List Tree) → proper columns s ≡ true → every good (q ∷ stack) ≡ true → every (proper columns) (nodes q ++ s ∷ []) ≡ true
   one-good q s stack f all =
@@ -215,96 +249,67 @@ module _ (columns : List (List Column)) where
       every_append (proper columns) (nodes q ++ nodes r) (s ∷ []) (every_append (proper columns) (nodes q) (nodes r) k.0 p.0) (and_from (proper columns s) true f refl)
 
   -- the record of a relation that has grown
-  grown_record : (e : Refusal) (s : Record) (stack : List Tree) (next : Grown) → grown e s stack ≡ done next → record_of next.top ≡ s
-  grown_record e (table_record t) stack next d = cc
-  grown_record e (select_record c) [] next d = absurd (refuse_not e next d)
-  grown_record e (select_record c) (q ∷ stack) next d = cc
-  grown_record e (project_record cs) [] next d = absurd (refuse_not e next d)
-  grown_record e (project_record cs) (q ∷ stack) next d = cc
-  grown_record e product_record [] next d = absurd (refuse_not e next d)
-  grown_record e product_record (r ∷ []) next d = absurd (refuse_not e next d)
-  grown_record e product_record (r ∷ (q ∷ stack)) next d = cc
-  grown_record e union_record [] next d = absurd (refuse_not e next d)
-  grown_record e union_record (r ∷ []) next d = absurd (refuse_not e next d)
-  grown_record e union_record (r ∷ (q ∷ stack)) next d = cc
-  grown_record e difference_record [] next d = absurd (refuse_not e next d)
-  grown_record e difference_record (r ∷ []) next d = absurd (refuse_not e next d)
-  grown_record e difference_record (r ∷ (q ∷ stack)) next d = cc
+  grown_record : (e : Refusal) (s : Record) (m : Making) → Makes s m → (stack : List Tree) (next : Grown) → grown e m stack ≡ done next → record_of next.top ≡ s
+  grown_record e s (alone q) so stack next d = let same : record { top = q; below = stack } ≡ next = cc in subst (λ (g : Grown). record_of g.top ≡ s) same so.0
+  grown_record e s (of_one make) so [] next d = absurd (refuse_not e next d)
+  grown_record e s (of_one make) so (q ∷ stack) next d = let same : record { top = make q; below = stack } ≡ next = cc in subst (λ (g : Grown). record_of g.top ≡ s) same (so q).0
+  grown_record e s (of_two make) so [] next d = absurd (refuse_not e next d)
+  grown_record e s (of_two make) so (r ∷ []) next d = absurd (refuse_not e next d)
+  grown_record e s (of_two make) so (r ∷ (q ∷ stack)) next d = let same : record { top = make q r; below = stack } ≡ next = cc in subst (λ (g : Grown). record_of g.top ≡ s) same (so q r).0
+
+  -- the bytes of a relation's own record are those of the record that it has
+  own : (s : Record) (q : Tree) → record_of q ≡ s → own_bytes q ≡ record_bytes (record_number s) (record_body s)
+  own s q e = ap (λ r. record_bytes (record_number r) (record_body r)) e
 
   -- the stack after it holds what was written so far
-  grown-back : (e : Refusal) (s : Record) (stack : List Tree) (next : Grown) → proper columns next.top ≡ true → every good stack ≡ true → grown e s stack ≡ done next → Made (record_number s) (record_body s) stack (next.top ∷ next.below)
+  grown-back : (e : Refusal) (s : Record) (m : Making) → Makes s m → (stack : List Tree) (next : Grown) → proper columns next.top ≡ true → every good stack ≡ true → grown e m stack ≡ done next → Made s stack (next.top ∷ next.below)
   unfolding encode
-  grown-back e (table_record t) stack next f all d =
-      let same : record { top = table t; below = stack } ≡ next = cc in
-      subst (λ (g : Grown). proper columns g.top ≡ true → Made 1 (t ∷ []) stack (g.top ∷ g.below)) same
-      (λ f. puts_none query_faults (record_step columns) encode size good 1 (t ∷ []) stack (table t ∷ stack) (table t)
-      (and_from (proper columns (table t)) true f refl) all refl (bytes-none t) refl) f
-  grown-back e (select_record c) [] next f all d = absurd (refuse_not e next d)
-  grown-back e (select_record c) (q ∷ stack) next f all d =
-      let same : record { top = select c q; below = stack } ≡ next = cc in
-      subst (λ (g : Grown). proper columns g.top ≡ true → Made 2 (condition_bytes c) (q ∷ stack) (g.top ∷ g.below)) same
-      (λ f. puts_one query_faults (record_step columns) encode size good 2 (condition_bytes c) stack (select c q ∷ stack) (select c q)
-      (one-good q (select c q) stack f all) q all refl (bytes_one q (select c q)) (count-one q (select c q))) f
-  grown-back e (project_record cs) [] next f all d = absurd (refuse_not e next d)
-  grown-back e (project_record cs) (q ∷ stack) next f all d =
-      let same : record { top = project cs q; below = stack } ≡ next = cc in
-      subst (λ (g : Grown). proper columns g.top ≡ true → Made 3 cs (q ∷ stack) (g.top ∷ g.below)) same
-      (λ f. puts_one query_faults (record_step columns) encode size good 3 cs stack (project cs q ∷ stack) (project cs q)
-      (one-good q (project cs q) stack f all) q all refl (bytes_one q (project cs q)) (count-one q (project cs q))) f
-  grown-back e product_record [] next f all d = absurd (refuse_not e next d)
-  grown-back e product_record (r ∷ []) next f all d = absurd (refuse_not e next d)
-  grown-back e product_record (r ∷ (q ∷ stack)) next f all d =
-      let same : record { top = product q r; below = stack } ≡ next = cc in
-      subst (λ (g : Grown). proper columns g.top ≡ true → Made 4 [] (r ∷ (q ∷ stack)) (g.top ∷ g.below)) same
-      (λ f. puts-two query_faults (record_step columns) encode size good 4 [] stack (product q r ∷ stack) (product q r)
-      (two_good q r (product q r) stack f all) q r all refl (bytes-two q r (product q r)) (count-two q r (product q r))) f
-  grown-back e union_record [] next f all d = absurd (refuse_not e next d)
-  grown-back e union_record (r ∷ []) next f all d = absurd (refuse_not e next d)
-  grown-back e union_record (r ∷ (q ∷ stack)) next f all d =
-      let same : record { top = union q r; below = stack } ≡ next = cc in
-      subst (λ (g : Grown). proper columns g.top ≡ true → Made 5 [] (r ∷ (q ∷ stack)) (g.top ∷ g.below)) same
-      (λ f. puts-two query_faults (record_step columns) encode size good 5 [] stack (union q r ∷ stack) (union q r)
-      (two_good q r (union q r) stack f all) q r all refl (bytes-two q r (union q r)) (count-two q r (union q r))) f
-  grown-back e difference_record [] next f all d = absurd (refuse_not e next d)
-  grown-back e difference_record (r ∷ []) next f all d = absurd (refuse_not e next d)
-  grown-back e difference_record (r ∷ (q ∷ stack)) next f all d =
-      let same : record { top = difference q r; below = stack } ≡ next = cc in
-      subst (λ (g : Grown). proper columns g.top ≡ true → Made 6 [] (r ∷ (q ∷ stack)) (g.top ∷ g.below)) same
-      (λ f. puts-two query_faults (record_step columns) encode size good 6 [] stack (difference q r ∷ stack) (difference q r)
-      (two_good q r (difference q r) stack f all) q r all refl (bytes-two q r (difference q r)) (count-two q r (difference q r))) f
+  grown-back e s (alone q) so stack next f all d =
+      let same : record { top = q; below = stack } ≡ next = cc in
+      subst (λ (g : Grown). proper columns g.top ≡ true → Made s stack (g.top ∷ g.below)) same
+      (λ f. puts_none query_faults said_by (asked columns) encode size good (record_number s) (record_body s) stack (q ∷ stack) q
+      (ap (every (proper columns)) so.1 ∙ and_from (proper columns q) true f refl) all refl (ap (flat_map own_bytes) so.1 ∙ append-nil (own_bytes q) ∙ own s q so.0) (ap length so.1)) f
+  grown-back e s (of_one make) so [] next f all d = absurd (refuse_not e next d)
+  grown-back e s (of_one make) so (q ∷ stack) next f all d =
+      let same : record { top = make q; below = stack } ≡ next = cc in
+      let n = (so q).1 in
+      subst (λ (g : Grown). proper columns g.top ≡ true → Made s (q ∷ stack) (g.top ∷ g.below)) same
+      (λ f. puts_one query_faults said_by (asked columns) encode size good (record_number s) (record_body s) stack (make q ∷ stack) (make q)
+      (ap (every (proper columns)) n ∙ one-good q (make q) stack f all) q all refl
+      (ap (flat_map own_bytes) n ∙ bytes_one q (make q) ∙ ap (λ l. encode q ++ l) (own s (make q) (so q).0)) (ap length n ∙ count-one q (make q))) f
+  grown-back e s (of_two make) so [] next f all d = absurd (refuse_not e next d)
+  grown-back e s (of_two make) so (r ∷ []) next f all d = absurd (refuse_not e next d)
+  grown-back e s (of_two make) so (r ∷ (q ∷ stack)) next f all d =
+      let same : record { top = make q r; below = stack } ≡ next = cc in
+      let n = (so q r).1 in
+      subst (λ (g : Grown). proper columns g.top ≡ true → Made s (r ∷ (q ∷ stack)) (g.top ∷ g.below)) same
+      (λ f. puts-two query_faults said_by (asked columns) encode size good (record_number s) (record_body s) stack (make q r ∷ stack) (make q r)
+      (ap (every (proper columns)) n ∙ two_good q r (make q r) stack f all) q r all refl
+      (ap (flat_map own_bytes) n ∙ bytes-two q r (make q r) ∙ ap (λ l. (encode q ++ encode r) ++ l) (own s (make q r) (so q r).0)) (ap length n ∙ count-two q r (make q r))) f
 
-  steps : (n kind : ℕ) (body : List ℕ) (stack next : List Tree) → every is_byte body ≡ true → every good stack ≡ true → record_step columns n kind body stack ≡ done next → Made kind body stack next
-  steps n kind body stack next bs all d =
-      let a = question-done (leb 1 kind && leb kind 6) (UnknownRecord n) (and_then (record_form (WrongForm n) kind body) (asks n stack)) next d in
-      let p = then-done (record_form (WrongForm n) kind body) (asks n stack) next a.1 in
+  steps : (n kind : ℕ) (body : List ℕ) (stack next : List Tree) → every is_byte body ≡ true → every good stack ≡ true → Goes query_faults said_by (asked columns) encode size n kind body stack next → Stepped query_faults said_by (asked columns) encode size good kind body stack next
+  steps n kind body stack next bs all p =
       let s : Record = p.0 in
-      let said : Said (WrongForm n) kind body s = record_back (WrongForm n) kind body s bs p.1 in
-      let q = then-done (grown (StackShort n) s stack) (fits n) next p.2 in
+      let a = question-done (leb 1 kind && leb kind 6) (UnknownRecord n) (record_form (WrongForm n) kind body) s p.1 in
+      let said : Said (WrongForm n) kind body s = record_back (WrongForm n) kind body s bs a.1 in
+      let q = then-done (grown (StackShort n) (making s) stack) (λ (next : Grown). put columns n next.top chain (done (next.top ∷ next.below))) next p.2 in
       let g : Grown = q.0 in
-      let x = question-done (named columns g.top) (NoSuchName n) (question (fitted columns g.top) (Unfit n) (question (narrow columns g.top) (ProductTooWide n) (done (g.top ∷ g.below)))) next q.2 in
-      let y = question-done (fitted columns g.top) (Unfit n) (question (narrow columns g.top) (ProductTooWide n) (done (g.top ∷ g.below))) next x.1 in
-      let z = question-done (narrow columns g.top) (ProductTooWide n) (done (g.top ∷ g.below)) next y.1 in
-      let f : formed g.top ≡ true = formed-is g.top ∙ ap formed_record (grown_record (StackShort n) s stack g q.1) ∙ said.form in
-      let m : Made (record_number s) (record_body s) stack (g.top ∷ g.below) =
-      grown-back (StackShort n) s stack g (proper-from g.top f x.0 y.0 z.0) all q.1 in
-      let d : done (g.top ∷ g.below) ≡ done next = z.1 in
+      let x = put_passed columns n g.top (done (g.top ∷ g.below)) chain next q.2 in
+      let f : formed g.top ≡ true = formed-is g.top ∙ ap formed_record (grown_record (StackShort n) s (making s) (makes s) stack g q.1) ∙ said.form in
+      let m : Made s stack (g.top ∷ g.below) = grown-back (StackShort n) s (making s) (makes s) stack g (and_from (formed g.top) (answered columns g.top chain) f x.0) all q.1 in
+      let d : done (g.top ∷ g.below) ≡ done next = x.1 in
       let same : g.top ∷ g.below ≡ next = cc in
-      subst (λ (l : List Tree). Made kind body stack l) same
-      (subst (λ (b : List ℕ). Made kind b stack (g.top ∷ g.below)) said.holds
-      (subst (λ (k : ℕ). Made k (record_body s) stack (g.top ∷ g.below)) said.by m))
+      subst (λ (l : List Tree). Stepped query_faults said_by (asked columns) encode size good kind body stack l) same
+      (subst (λ (b : List ℕ). Stepped query_faults said_by (asked columns) encode size good kind b stack (g.top ∷ g.below)) said.holds
+      (subst (λ (k : ℕ). Stepped query_faults said_by (asked columns) encode size good k (record_body s) stack (g.top ∷ g.below)) said.by m))
 
   -- a tree has a byte
-  last_byte : (l : List ℕ) (s : Tree) → 1 ≤ length (l ++ own_bytes s)
-  last_byte l s = rw (length-append l (own_bytes s)) (omega arith)
-
   some_byte : (q : Tree) → 1 ≤ length (encode q)
   unfolding encode
-  some_byte (table t) = omega arith
-  some_byte (select c q) = rw (bytes_one q (select c q)) (last_byte (encode q) (select c q))
-  some_byte (project cs q) = rw (bytes_one q (project cs q)) (last_byte (encode q) (project cs q))
-  some_byte (product q r) = rw (bytes-two q r (product q r)) (last_byte (encode q ++ encode r) (product q r))
-  some_byte (union q r) = rw (bytes-two q r (union q r)) (last_byte (encode q ++ encode r) (union q r))
-  some_byte (difference q r) = rw (bytes-two q r (difference q r)) (last_byte (encode q ++ encode r) (difference q r))
+  some_byte q =
+      let n = nodes_end q in
+      let l = ap (λ l. length (flat_map own_bytes l)) n.1 ∙ ap length (joined_append own_bytes n.0 (q ∷ [])) ∙ length-append (flat_map own_bytes n.0) (flat_map own_bytes (q ∷ [])) in
+      omega (arith, l)
 
   passes : (bytes : List ℕ) (q : Tree) → Query columns bytes q → questions columns bytes ≡ done q
   unfolding questions
@@ -313,16 +318,16 @@ module _ (columns : List (List Column)) where
       let some : 1 ≤ length bytes = subst (λ (l : List ℕ). 1 ≤ length l) (sym b) (some_byte q) in
       let l : (leb 1 (length bytes) && leb (length bytes) 1024) ≡ true = and_from _ _ (le-leb _ _ some) (le-leb _ _ h.3) in
       let few : size q ≤ 15 = h.2 in
-      ap (λ t. question t QueryLength (walk query_faults (record_step columns) 15 0 [] bytes)) l
-      ∙ ap (λ m. walk query_faults (record_step columns) 15 0 [] m) b
-      ∙ reads_all query_faults (record_step columns) encode size q 15 (15 - size q) 0 (reads-tree q h.1) (omega arith)
+      ap (λ t. question t QueryLength (query_walk columns 15 0 [] bytes)) l
+      ∙ ap (λ m. query_walk columns 15 0 [] m) b
+      ∙ reads_all query_faults said_by (asked columns) encode size q 15 (15 - size q) 0 (reads-tree q h.1) (omega arith)
 
   only : (bytes : List ℕ) (q : Tree) → every is_byte bytes ≡ true → questions columns bytes ≡ done q → Query columns bytes q
   unfolding questions
   only bytes q bs d =
-      let a = question-done (leb 1 (length bytes) && leb (length bytes) 1024) QueryLength (walk query_faults (record_step columns) 15 0 [] bytes) q d in
+      let a = question-done (leb 1 (length bytes) && leb (length bytes) 1024) QueryLength (query_walk columns 15 0 [] bytes) q d in
       let l = and_parts (leb 1 (length bytes)) (leb (length bytes) 1024) a.0 in
-      let w : Walked query_faults (record_step columns) encode size good 15 [] bytes q = walk-back query_faults (record_step columns) encode size good steps 15 0 [] bytes q bs refl a.1 in
+      let w : Walked query_faults said_by (asked columns) encode size good 15 [] bytes q = walk-back query_faults said_by (asked columns) encode size good steps 15 0 [] bytes q bs refl a.1 in
       (w.wrote, w.fine, omega (arith, w.few), leb-true _ _ l.1)
 
 pub reads_exactly : ReadsExactly
@@ -330,8 +335,8 @@ reads_exactly columns bytes q bs = (only columns bytes q bs, passes columns byte
 
 pub reads_one_way : ReadsOneWay
 reads_one_way columns q r g h e =
-    let a = reads_all query_faults (record_step columns) encode size q (size q + size r) (size r) 0 (reads-tree columns q g) refl in
-    let b = reads_all query_faults (record_step columns) encode size r (size q + size r) (size q) 0 (reads-tree columns r h) (omega arith) in
-    let c : walk query_faults (record_step columns) (size q + size r) 0 [] (encode q) ≡ walk query_faults (record_step columns) (size q + size r) 0 [] (encode r) = ap (λ l. walk query_faults (record_step columns) (size q + size r) 0 [] l) e in
+    let a = reads_all query_faults said_by (asked columns) encode size q (size q + size r) (size r) 0 (reads-tree columns q g) refl in
+    let b = reads_all query_faults said_by (asked columns) encode size r (size q + size r) (size q) 0 (reads-tree columns r h) (omega arith) in
+    let c : query_walk columns (size q + size r) 0 [] (encode q) ≡ query_walk columns (size q + size r) 0 [] (encode r) = ap (λ l. query_walk columns (size q + size r) 0 [] l) e in
     let d : done q ≡ done r = sym a ∙ c ∙ b in
     cc

@@ -2,6 +2,8 @@
 use Rattle.std.specs.Prelude.{ℕ, ◌+◌, Bool, true, ◌&&◌, List, [], ◌∷◌, ◌++◌, map, length, nat_le, nat_lt, slice_index_or}
 use Rattle.semantics.specs.declared.kind.Kind.{Kind}
 use Rattle.semantics.specs.declared.kind.Column.{Column}
+use Rattle.semantics.specs.declared.refusal.Refusal.{Refusal}
+use Rattle.semantics.specs.declared.refusal.Refusal.TheVariants.{NoSuchName, Unfit, ProductTooWide}
 use Rattle.semantics.specs.Conditions.{Condition, kind_at, formed_condition, named_comparison, fitting_comparison, every_comparison}
 use Rattle.semantics.specs.Drafts.{is_table}
 use Rattle.semantics.specs.Kinds.{same_kind}
@@ -24,6 +26,15 @@ nodes (project cs q) = nodes q ++ project cs q ∷ []
 nodes (product q r) = (nodes q ++ nodes r) ++ product q r ∷ []
 nodes (union q r) = (nodes q ++ nodes r) ++ union q r ∷ []
 nodes (difference q r) = (nodes q ++ nodes r) ++ difference q r ∷ []
+
+-- The relations that it is made of, from left to right.
+abbrev pub parts_of : Tree → List Tree
+parts_of (table t) = []
+parts_of (select c q) = q ∷ []
+parts_of (project cs q) = q ∷ []
+parts_of (product q r) = q ∷ r ∷ []
+parts_of (union q r) = q ∷ r ∷ []
+parts_of (difference q r) = q ∷ r ∷ []
 
 -- The kinds of a relation's columns, over the columns of four tables.
 abbrev pub kinds_of : List (List Column) → Tree → List Kind
@@ -70,9 +81,26 @@ narrow columns (product q r) = nat_le (length (kinds_of columns q) + length (kin
 narrow columns (union q r) = true
 narrow columns (difference q r) = true
 
+-- A question put to a relation over the columns of four tables, and how "no" refuses it at the number of its record.
+pub record Question : Type 0 where
+  pub asks : List (List Column) → Tree → Bool
+  pub refusal : ℕ → Refusal
+
+-- The questions put to each relation of a query, in this order.
+abbrev pub chain : List Question
+chain =
+    record { asks = named; refusal = λ n. NoSuchName n }
+    ∷ record { asks = fitted; refusal = λ n. Unfit n }
+    ∷ record { asks = narrow; refusal = λ n. ProductTooWide n }
+    ∷ []
+
+-- Are these questions all answered with "yes"?
+abbrev pub answered : List (List Column) → Tree → List Question → Bool
+answered columns q questions = every (λ k. k.asks columns q) questions
+
 -- Do a relation's own record and its parts go together?
 abbrev pub proper : List (List Column) → Tree → Bool
-proper columns q = formed q && named columns q && fitted columns q && narrow columns q
+proper columns q = formed q && answered columns q chain
 
 -- Is the tree well formed: do they in every relation of it?
 abbrev pub well_formed : List (List Column) → Tree → Bool

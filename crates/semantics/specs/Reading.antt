@@ -3,16 +3,16 @@ use Rattle.std.specs.Prelude.{◌≡◌, ℕ, ◌≤◌, true, cond, ◌&&◌, L
 use Rattle.semantics.specs.declared.kind.Column.{Column}
 use Rattle.semantics.specs.declared.operator.Operator.{Operator}
 use Rattle.semantics.specs.declared.refusal.Refusal.{Refusal}
-use Rattle.semantics.specs.declared.refusal.Refusal.TheVariants.{QueryLength, TooManyRecords, BrokenRecord, UnknownRecord, WrongForm, StackShort, NoSuchName, Unfit, ProductTooWide, NotOneRelation}
+use Rattle.semantics.specs.declared.refusal.Refusal.TheVariants.{QueryLength, TooManyRecords, BrokenRecord, UnknownRecord, WrongForm, StackShort, NotOneRelation}
 use Rattle.semantics.specs.Bytes.{is_byte, from_four}
 use Rattle.semantics.specs.Conditions.{Comparison, by_column, by_number, by_prefix, Condition, compared, conjunction, disjunction, negation, Term, comparing, conjoining, disjoining, negating}
 use Rattle.semantics.specs.Lists.{every}
 use Rattle.semantics.specs.Operators.{operator_from}
 use Rattle.semantics.specs.Outcomes.{Outcome, done, refuse, question, found, and_then}
-use Rattle.semantics.specs.Queries.{Tree, table, select, project, product, union, difference, nodes, well_formed, named, fitted, narrow}
+use Rattle.semantics.specs.Queries.{Tree, table, select, project, product, union, difference, nodes, well_formed, Question, chain}
 use Rattle.semantics.specs.Records.{Record, table_record, select_record, project_record, product_record, union_record, difference_record, encode}
 use Rattle.semantics.specs.Values.{is_digit}
-use Rattle.semantics.specs.Walks.{Faults, walk}
+use Rattle.semantics.specs.Walks.{Faults, Next, read_next, walk}
 
 -- Form: what a body says by itself. A body of another form is refused with `e`.
 
@@ -58,6 +58,10 @@ term_form e kind body =
     (cond (kind == 0x15) (empty_form e negating body)
     (refuse e))))))
 
+-- The next record of a condition: whole, and a term.
+abbrev pub next_term : Refusal → List ℕ → Outcome (Next Term)
+next_term e bytes = read_next e (term_form e) bytes
+
 -- The stack of conditions after a term: it takes its parts from the top, the right one first.
 abbrev pub combined : Refusal → Term → List Condition → Outcome (List Condition)
 combined e (comparing k) stack = done (compared k ∷ stack)
@@ -70,15 +74,16 @@ combined e disjoining (d ∷ (c ∷ stack)) = done (disjunction c d ∷ stack)
 combined e negating [] = refuse e
 combined e negating (c ∷ stack) = done (negation c ∷ stack)
 
-abbrev pub term_step : Refusal → ℕ → ℕ → List ℕ → List Condition → Outcome (List Condition)
-term_step e n kind body stack = and_then (term_form e kind body) (λ term. combined e term stack)
-
 abbrev pub term_faults : Refusal → Faults
 term_faults e = record { too_many = λ n. e; broken = λ n. e; not_one = λ n. e }
 
+-- The walk over the records of a condition, from one of them on.
+abbrev pub condition_walk : Refusal → ℕ → ℕ → List Condition → List ℕ → Outcome Condition
+condition_walk e = walk (term_faults e) (λ n. term_form e) (λ n. combined e)
+
 -- The condition in the body of a select: 1 to 15 condition records that leave one.
 abbrev pub condition_form : Refusal → List ℕ → Outcome Condition
-condition_form e body = walk (term_faults e) (term_step e) 15 0 [] body
+condition_form e body = condition_walk e 15 0 [] body
 
 -- The table in the body of a table record.
 abbrev pub table_form : Refusal → List ℕ → Outcome Record
@@ -97,46 +102,64 @@ record_form e kind body =
     (cond (kind == 6) (empty_form e difference_record body)
     (refuse e))))))
 
+-- What record number `n` says by itself: its kind has to be known, and its body of the form of the kind.
+abbrev pub said_by : ℕ → ℕ → List ℕ → Outcome Record
+said_by n kind body = question (nat_le 1 kind && nat_le kind 6) (UnknownRecord n) (record_form (WrongForm n) kind body)
+
+-- How a record makes a relation: of no parts, of one, or of a left and a right one.
+pub data Making : Type 0 where
+  alone : Tree → Making
+  of_one : (Tree → Tree) → Making
+  of_two : (Tree → Tree → Tree) → Making
+
+abbrev pub making : Record → Making
+making (table_record t) = alone (table t)
+making (select_record c) = of_one (select c)
+making (project_record cs) = of_one (project cs)
+making product_record = of_two product
+making union_record = of_two union
+making difference_record = of_two difference
+
 -- The relation that a record makes of those on top of the stack, the right part first, and the stack below it.
 pub record Grown : Type 0 where
   pub top : Tree
   pub below : List Tree
 
-abbrev pub grown : Refusal → Record → List Tree → Outcome Grown
-grown e (table_record t) stack = done (record { top = table t; below = stack })
-grown e (select_record c) [] = refuse e
-grown e (select_record c) (q ∷ stack) = done (record { top = select c q; below = stack })
-grown e (project_record cs) [] = refuse e
-grown e (project_record cs) (q ∷ stack) = done (record { top = project cs q; below = stack })
-grown e product_record [] = refuse e
-grown e product_record (r ∷ []) = refuse e
-grown e product_record (r ∷ (q ∷ stack)) = done (record { top = product q r; below = stack })
-grown e union_record [] = refuse e
-grown e union_record (r ∷ []) = refuse e
-grown e union_record (r ∷ (q ∷ stack)) = done (record { top = union q r; below = stack })
-grown e difference_record [] = refuse e
-grown e difference_record (r ∷ []) = refuse e
-grown e difference_record (r ∷ (q ∷ stack)) = done (record { top = difference q r; below = stack })
+abbrev pub grown : Refusal → Making → List Tree → Outcome Grown
+grown e (alone q) stack = done (record { top = q; below = stack })
+grown e (of_one make) [] = refuse e
+grown e (of_one make) (q ∷ stack) = done (record { top = make q; below = stack })
+grown e (of_two make) [] = refuse e
+grown e (of_two make) (r ∷ []) = refuse e
+grown e (of_two make) (r ∷ (q ∷ stack)) = done (record { top = make q r; below = stack })
 
--- The questions put to record number `n`, and the stack after it.
-abbrev pub record_step : List (List Column) → ℕ → ℕ → List ℕ → List Tree → Outcome (List Tree)
-record_step columns n kind body stack =
-    question (nat_le 1 kind && nat_le kind 6) (UnknownRecord n)
-    (and_then (record_form (WrongForm n) kind body) (λ said.
-    (and_then (grown (StackShort n) said stack) (λ next.
-    (question (named columns next.top) (NoSuchName n)
-    (question (fitted columns next.top) (Unfit n)
-    (question (narrow columns next.top) (ProductTooWide n)
-    (done (next.top ∷ next.below)))))))))
+-- Puts questions to the relation of record number `n`, in their order, before `next`: the first "no" refuses.
+abbrev pub put : {X : Type 0} → List (List Column) → ℕ → Tree → List Question → Outcome X → Outcome X
+put columns n q [] next = next
+put columns n q (k ∷ questions) next = question (k.asks columns q) (k.refusal n) (put columns n q questions next)
+
+-- The questions put to what record number `n` says, over a stack, and the stack after it.
+abbrev pub asked : List (List Column) → ℕ → Record → List Tree → Outcome (List Tree)
+asked columns n says stack =
+    and_then (grown (StackShort n) (making says) stack) (λ next.
+    put columns n next.top chain (done (next.top ∷ next.below)))
+
+-- The next record of a query, with the number `n`: it has to be whole, of a known kind, and of the form of its kind.
+abbrev pub next_said : ℕ → List ℕ → Outcome (Next Record)
+next_said n bytes = read_next (BrokenRecord n) (said_by n) bytes
 
 abbrev pub query_faults : Faults
 query_faults = record { too_many = λ n. TooManyRecords n; broken = λ n. BrokenRecord n; not_one = λ n. NotOneRelation n }
+
+-- The walk over the records of a query, from one of them on.
+abbrev pub query_walk : List (List Column) → ℕ → ℕ → List Tree → List ℕ → Outcome Tree
+query_walk columns = walk query_faults said_by (asked columns)
 
 -- The questions put to a query over the columns of four tables, and the tree that it is.
 unfoldable pub questions : List (List Column) → List ℕ → Outcome Tree
 questions columns bytes =
     question (nat_le 1 (length bytes) && nat_le (length bytes) 1024) QueryLength
-    (walk query_faults (record_step columns) 15 0 [] bytes)
+    (query_walk columns 15 0 [] bytes)
 
 -- The bytes are those of a well-formed tree of at most 15 records, and at most 1,024.
 abbrev pub Query : List (List Column) → List ℕ → Tree → Type 0

@@ -1,16 +1,17 @@
-use Rattle.std.proofs.Common.{◌≡◌, ℕ, ◌+◌, ◌-◌, ◌<◌, true, false, ◌&&◌, leb, List, [], ◌∷◌, length, drop, Ok, rules, sym, ap, ◌∙◌, subst, arith}
+use Rattle.std.proofs.Common.{◌≡◌, ℕ, ◌+◌, ◌-◌, ◌<◌, true, false, ◌&&◌, leb, List, [], ◌∷◌, length, drop, rules, sym, ap, ◌∙◌, subst, arith}
 use Rattle.std.proofs.lemmas.Result.{err_from_is_err_and}
 use Rattle.semantics.specs.declared.refusal.Refusal.TheVariants.{NotOneRelation}
 use Rattle.semantics.specs.Outcomes.{done, refuse}
 use Rattle.semantics.specs.Queries.{Tree}
-use Rattle.semantics.specs.Reading.{record_step, query_faults}
-use Rattle.semantics.specs.Walks.{walk}
+use Rattle.semantics.specs.Reading.{next_said, asked, query_walk}
+use Rattle.semantics.specs.Records as meant
+use Rattle.semantics.specs.Walks.{Next}
 use Rattle.semantics.proofs.Trees.{reads_exactly}
 use Rattle.book.specs.Books.{book_model}
-use Rattle.query.specs.Plans.{record_count, Plans, asked, Grew}
-use Rattle.query.specs.Saying.{First, first_said, ReadAs}
+use Rattle.query.specs.Plans.{record_count, Plans, Grew}
+use Rattle.records.proofs.Reading.{said-rest, read_passed}
 use Rattle.query.proofs.Laying.{plans_none}
-use Rattle.query.proofs.Checking.{room, walk-many, walk_end, long-enough, wrong_length, some_left, none_left, short-said, lone-done, lone_not, said-rest, end_of_end, went_unsaid, went-unasked, went_on}
+use Rattle.query.proofs.Checking.{room, walk-many, walk_end, long-enough, wrong_length, some_left, none_left, lone-done, lone_not, end_of_end, went_unsaid, went-unasked, went_on}
 use Rattle.query.proofs.questions.check.Goals as goal
 
 pub returns-then-not-contains-clause-plan : goal.returns-then-not-contains-clause-plan
@@ -27,7 +28,7 @@ loop-rest-init c =
     let sized : (leb 1 (length c.args.query.now) && leb (length c.args.query.now) 1024) ≡ true = search rules in (
       omega arith,
       ap (λ m. drop m c.args.query.now) n,
-      ([], plans, ap (λ m. walk query_faults (record_step columns) (15 - m) m [] c.args.query.now) z ∙ sym (long-enough columns c.args.query.now sized)),
+      ([], plans, ap (λ m. query_walk columns (15 - m) m [] c.args.query.now) z ∙ sym (long-enough columns c.args.query.now sized)),
     )
 
 pub returns-then-is_full-clause-plan : goal.returns-then-is_full-clause-plan
@@ -38,19 +39,19 @@ returns-then-is_full-clause-plan c =
     ∙ walk-many (book_model c.args.book.now).columns (15 - record_count c.loop-rest.plan) (record_count c.loop-rest.plan) i.0 c.loop-rest.rest.now
     (omega (arith, c.is_full.ensures.0 c.if-is_full.true)) (some_left c.loop-rest.rest.now c.loop-rest-test.ensures))
 
-pub returns-in_err-said-clause-plan : goal.returns-in_err-said-clause-plan
-returns-in_err-said-clause-plan c =
+pub returns-in_err-check-clause-plan : goal.returns-in_err-check-clause-plan
+returns-in_err-check-clause-plan c =
     let i = c.loop-rest.invariant.2 in
     let p = err_from_is_err_and c.from_residual.result c.from_residual.ensures.1 in
     rw (p.1, p.2)
     (sym i.2
     ∙ went_unsaid (book_model c.args.book.now).columns (record_count c.loop-rest.plan) i.0 c.loop-rest.rest.now (room c.loop-rest.plan c.is_full.result c.is_full.ensures c.if-is_full.false) (some_left c.loop-rest.rest.now c.loop-rest-test.ensures) _
-    (subst (λ (m : ℕ). first_said m c.loop-rest.rest.now ≡ refuse c.in_err-said.field-0.0) c.place-place.ensures c.in_err-said.ensures))
+    (subst (λ (m : ℕ). next_said m c.loop-rest.rest.now ≡ refuse c.in_err-check.field-0.0) c.place-place.ensures c.in_err-check.ensures))
 
 pub returns-in_err-step-clause-plan : goal.returns-in_err-step-clause-plan
 returns-in_err-step-clause-plan c =
     let i = c.loop-rest.invariant.2 in
-    let f = subst (λ (m : ℕ). ReadAs m (Ok (c.in_ok-said.said, c.in_ok-said.behind)) (first_said m c.loop-rest.rest.now)) c.place-place.ensures c.in_ok-said.ensures in
+    let f = read_passed (record_count c.loop-rest.plan) c.place-place.result c.loop-rest.rest.now c.read.result c.place-place.ensures c.in_ok-check.ensures c.read.ensures in
     let p = err_from_is_err_and c.from_residual-in_err-step.result c.from_residual-in_err-step.ensures.1 in
     rw (p.1, p.2)
     (sym i.2
@@ -65,19 +66,19 @@ loop-rest-preserved c =
     let rest : List ℕ = c.loop-rest.rest.now in
     let v = c.loop-rest.invariant in
     let stack : List Tree = v.2.0 in
-    let r = subst (λ (m : ℕ). ReadAs m (Ok (c.in_ok-said.said, c.in_ok-said.behind)) (first_said m rest)) c.place-place.ensures c.in_ok-said.ensures in
-    let f : First = r.0 in
-    let said : first_said n rest ≡ done f = r.1 in
+    let r = read_passed n c.place-place.result rest c.read.result c.place-place.ensures c.in_ok-check.ensures c.read.ensures in
+    let f : Next meant.Record = r.0 in
+    let said : next_said n rest ≡ done f = r.1 in
     let s = said-rest n rest f said in
     let few : n < 15 = room c.loop-rest.plan c.is_full.result c.is_full.ensures c.if-is_full.false in
-    let g : Grew columns stack c.in_ok-step.step f.says (asked columns n stack f.says) = c.in_ok-step.ensures f.says r.2 q stack v.2.1 in (
+    let g : Grew columns stack c.in_ok-step.step f.says (asked columns n f.says stack) = c.in_ok-step.ensures f.says r.2 q stack v.2.1 in (
       omega (arith, ap length r.3, s.0, v.0),
       subst (λ (b : List ℕ). drop (length q - length b) q ≡ b) (sym r.3) (end_of_end q rest f.rest v.0 v.1 s.0 s.1),
       (
         g.top ∷ g.below,
-        c.push.ensures.plans columns q stack f.says f.rest (asked columns n stack f.says) v.2.1 g (ap (first_said n) v.1 ∙ said),
-        ap (λ m. walk query_faults (record_step columns) (15 - m) m (g.top ∷ g.below) c.in_ok-said.behind.now) c.push.ensures.count
-            ∙ ap (λ b. walk query_faults (record_step columns) (15 - (n + 1)) (n + 1) (g.top ∷ g.below) b) r.3
+        c.push.ensures.plans columns q stack f.says f.rest (asked columns n f.says stack) v.2.1 g (ap (next_said n) v.1 ∙ said),
+        ap (λ m. query_walk columns (15 - m) m (g.top ∷ g.below) c.read.result.1.now) c.push.ensures.count
+            ∙ ap (λ b. query_walk columns (15 - (n + 1)) (n + 1) (g.top ∷ g.below) b) r.3
             ∙ went_on columns n stack rest few (some_left rest c.loop-rest-test.ensures) f (g.top ∷ g.below) said g.is
             ∙ v.2.2,
       ),
@@ -110,8 +111,8 @@ returns-then-not-contains-clause-exact c = reads_exactly
 pub returns-then-is_full-clause-exact : goal.returns-then-is_full-clause-exact
 returns-then-is_full-clause-exact c = reads_exactly
 
-pub returns-in_err-said-clause-exact : goal.returns-in_err-said-clause-exact
-returns-in_err-said-clause-exact c = reads_exactly
+pub returns-in_err-check-clause-exact : goal.returns-in_err-check-clause-exact
+returns-in_err-check-clause-exact c = reads_exactly
 
 pub returns-in_err-step-clause-exact : goal.returns-in_err-step-clause-exact
 returns-in_err-step-clause-exact c = reads_exactly

@@ -1,7 +1,6 @@
 use Rattle.std.proofs.Common.{◌≡◌, ◌-◌, ◌≤◌, List, length, drop}
 use Rattle.semantics.specs.Queries.{Tree}
-use Rattle.semantics.specs.Reading.{record_step, query_faults, questions}
-use Rattle.semantics.specs.Walks.{walk}
+use Rattle.semantics.specs.Reading.{query_walk, questions}
 use Rattle.book.specs.Books.{book_model}
 use Rattle.query.specs.Plans.{record_count, Plans, laid}
 use Rattle.query.proofs.questions.check.Given as goal
@@ -11,7 +10,7 @@ abbrev pub invariant-loop-rest : goal.invariant-loop-rest
 invariant-loop-rest l =
     (length l.rest ≤ length l.query) × (drop (length l.query - length l.rest) l.query ≡ l.rest) ×
     ((stack : List Tree) × Plans (book_model l.book).columns l.query l.plan (laid stack) ×
-    (walk query_faults (record_step (book_model l.book).columns) (15 - record_count l.plan) (record_count l.plan) stack l.rest ≡ questions (book_model l.book).columns l.query))
+    (query_walk (book_model l.book).columns (15 - record_count l.plan) (record_count l.plan) stack l.rest ≡ questions (book_model l.book).columns l.query))
 
 abbrev pub decreases-loop-rest : goal.decreases-loop-rest
 decreases-loop-rest l = 15 - record_count l.plan

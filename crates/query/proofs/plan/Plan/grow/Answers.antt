@@ -1,6 +1,6 @@
 use Rattle.std.proofs.Common.{◌≡◌, ⊎_elim}
 use Rattle.book.specs.Books.{book_model}
-use Rattle.query.specs.declared.record.Record.TheVariants.{Table, Select, Project, Product, Union, Difference}
+use Rattle.records.specs.declared.record.Record.TheVariants.{Table, Select, Project, Product, Union, Difference}
 use Rattle.query.specs.Plans.{record_count}
 use Rattle.query.proofs.Checking.{by_case}
 use Rattle.query.proofs.plan.Plan.grow.Goals as goal

@@ -1,18 +1,21 @@
 use Rattle.std.proofs.Common.{arith, rules, sym, refl, ◌∙◌}
 use borrow.Author.Tests.{tests}
 use Rattle.std.proofs.lemmas.Result.{err_from_is_err_and}
-use Rattle.semantics.specs.declared.refusal.Refusal.TheVariants.{WrongForm}
+use Rattle.semantics.specs.declared.refusal.Refusal.TheVariants.{WrongForm, NoSuchName, Unfit}
 use Rattle.semantics.specs.Conditions.{named_comparison, fitting_comparison}
+use Rattle.semantics.specs.Queries.{select}
+use Rattle.semantics.specs.Records.{select_record}
+use Rattle.semantics.proofs.Trees.{makes}
 use Rattle.query.specs.Kinds.{kinds_in}
 use Rattle.query.specs.Plans.{record_count}
 use Rattle.query.proofs.Asking.{all_asked}
-use Rattle.query.proofs.Laying.{select_short, select_unnamed, select_unfit, select_grew}
+use Rattle.query.proofs.Laying.{one_short, one_refused, one_grew, select_unnamed, select_unfit, select_passes}
 use Rattle.query.proofs.plan.Plan.select.Goals as goal
 
 pub returns-in_err-part : goal.returns-in_err-part
 returns-in_err-part c columns d form bytes stack plans =
     let p = err_from_is_err_and c.from_residual.result c.from_residual.ensures.1 in
-    rw (p.1, p.2, c.in_err-part.ensures.1) (select_short columns bytes c.args.self.now d stack plans c.in_err-part.ensures.0)
+    rw (p.1, p.2, c.in_err-part.ensures.1) (one_short columns bytes c.args.self.now (select d) stack plans c.in_err-part.ensures.0)
 
 pub returns-then-not-all : goal.returns-then-not-all
 returns-then-not-all c columns d form bytes stack plans =
@@ -20,7 +23,8 @@ returns-then-not-all c columns d form bytes stack plans =
     let e = WrongForm (record_count c.args.self.now) in
     let named = all_asked (named_comparison kinds) c.all.new.self _ c.all.result e c.args.body.now d form c.of.ensures c.all.ensures.ran (λ x b q k. search (rules, tests)) in
     rw c.place-place.ensures
-    (select_unnamed columns bytes c.args.self.now d stack c.in_ok-part.field-0 plans c.in_ok-part.ensures (sym c.if-not-all.true ∙ named))
+    (one_refused columns bytes c.args.self.now (select d) stack c.in_ok-part.field-0 (NoSuchName (record_count c.args.self.now)) plans c.in_ok-part.ensures
+    (λ x next k. select_unnamed columns (record_count c.args.self.now) next d x kinds k (sym c.if-not-all.true ∙ named)))
 
 pub returns-then-not-all-2 : goal.returns-then-not-all-2
 returns-then-not-all-2 c columns d form bytes stack plans =
@@ -29,7 +33,8 @@ returns-then-not-all-2 c columns d form bytes stack plans =
     let named = all_asked (named_comparison kinds) c.all.new.self _ c.all.result e c.args.body.now d form c.of.ensures c.all.ensures.ran (λ x b q k. search (rules, tests)) in
     let fitting = all_asked (fitting_comparison kinds) c.all-2.new.self _ c.all-2.result e c.args.body.now d form c.of-2.ensures c.all-2.ensures.ran (λ x b q k. search (rules, tests)) in
     rw c.place-place.ensures
-    (select_unfit columns bytes c.args.self.now d stack c.in_ok-part.field-0 plans c.in_ok-part.ensures (sym c.if-not-all.false ∙ named) (sym c.if-not-all-2.true ∙ fitting))
+    (one_refused columns bytes c.args.self.now (select d) stack c.in_ok-part.field-0 (Unfit (record_count c.args.self.now)) plans c.in_ok-part.ensures
+    (λ x next k. select_unfit columns (record_count c.args.self.now) next d x kinds k (sym c.if-not-all.false ∙ named) (sym c.if-not-all-2.true ∙ fitting)))
 
 pub returns : goal.returns
 returns c columns d form bytes stack plans =
@@ -37,5 +42,5 @@ returns c columns d form bytes stack plans =
     let e = WrongForm (record_count c.args.self.now) in
     let named = all_asked (named_comparison kinds) c.all.new.self _ c.all.result e c.args.body.now d form c.of.ensures c.all.ensures.ran (λ x b q k. search (rules, tests)) in
     let fitting = all_asked (fitting_comparison kinds) c.all-2.new.self _ c.all-2.result e c.args.body.now d form c.of-2.ensures c.all-2.ensures.ran (λ x b q k. search (rules, tests)) in
-    select_grew columns bytes c.args.self.now d stack c.in_ok-part.field-0 _ plans c.in_ok-part.ensures
-    (sym c.if-not-all.false ∙ named) (sym c.if-not-all-2.false ∙ fitting) (grind arith) refl refl
+    one_grew columns bytes c.args.self.now (select d) (select_record d) (makes (select_record d)) stack c.in_ok-part.field-0 _ plans c.in_ok-part.ensures (grind arith) refl
+    (λ x k. (select_passes columns d x kinds k (sym c.if-not-all.false ∙ named) (sym c.if-not-all-2.false ∙ fitting), k))

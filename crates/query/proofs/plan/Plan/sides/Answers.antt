@@ -1,7 +1,7 @@
 use Rattle.std.proofs.Common.{arith, rules, refl, sym, ◌∙◌}
 use Rattle.std.proofs.lemmas.Result.{err_from_is_err_and}
 use Rattle.query.proofs.Laying.{sides_none, sides_single, sides_past, sides_two}
-use Rattle.query.proofs.Reading.{refused-none}
+use Rattle.records.proofs.Reading.{refused-none}
 use Rattle.query.proofs.plan.Plan.sides.Goals as goal
 
 pub returns-in_err-right : goal.returns-in_err-right

@@ -1,0 +1,4 @@
+pub mod RecordKinds
+pub mod Firsts
+pub mod Terms
+pub mod Saying
