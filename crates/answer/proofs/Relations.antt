@@ -63,7 +63,8 @@ module _ (columns : List (List Column)) where
   relation-proper q i w h = every-at (proper columns) (nodes q) i (table 0) h w
 
   pub product_narrow : (q r : Tree) → proper columns (product q r) ≡ true → length (kinds_of columns q) + length (kinds_of columns r) ≤ 8
-  product_narrow q r e = leb-true (length (kinds_of columns q) + length (kinds_of columns r)) 8 e
+  product_narrow q r e =
+      leb-true (length (kinds_of columns q) + length (kinds_of columns r)) 8 (and_parts (leb (length (kinds_of columns q) + length (kinds_of columns r)) 8) true e).0
 
   pub union-fitted : (q r : Tree) → proper columns (union q r) ≡ true → length (kinds_of columns r) ≡ length (kinds_of columns q)
   union-fitted q r e =

@@ -10,8 +10,8 @@ use Rattle.semantics.specs.Outcomes.{done}
 use Rattle.semantics.specs.Reading.{condition_form}
 use Rattle.semantics.specs.Truths.{Truth, truth, both, either, opposite}
 use Rattle.semantics.specs.Views.{Masked}
-use Rattle.query.specs.Terms.{terms_in}
-use Rattle.query.proofs.Leading.{condition-terms, condition-few}
+use Rattle.records.specs.Terms.{terms_in}
+use Rattle.records.proofs.Leading.{condition-terms, condition-few}
 use Rattle.compare.specs.Stacks.{pushed, top, stepped}
 
 module _ (row : List Masked) where

@@ -9,7 +9,7 @@ ghost use Rattle.compare.specs.Truths.{truth_of};
 
 use crate::kleene::Truth;
 use crate::truths::Truths;
-use query::Terms;
+use records::Terms;
 use view::Masked;
 
 /// What is known of a condition, the body of a select, on a row.

@@ -1,5 +1,5 @@
 ghost use Rattle.std.specs.Prelude.{◌≡◌, [], map};
-ghost use Rattle.query.specs.Terms.{term_of};
+ghost use Rattle.records.specs.Terms.{term_of};
 ghost use Rattle.view.specs.Views.{masked_of};
 ghost use Rattle.compare.specs.Stacks.{stack_of, pushed, top, under, stepped};
 ghost use Rattle.compare.specs.Truths.{truth_of};
@@ -8,7 +8,7 @@ use crate::comparing::{compare, compare_with};
 use crate::kleene::Truth;
 use crate::plain::Plain;
 use bounded::Bounded;
-use query::Term;
+use records::Term;
 use view::{Masked, cell_at};
 
 /// The truths that the records of a condition have left so far, at most 15, the last on top.

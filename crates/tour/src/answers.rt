@@ -5,7 +5,7 @@ use book::Book;
 use cells::Cell;
 use lookup::ask;
 use policy::Filters;
-use query::Term;
+use records::Term;
 use semantics::Operator;
 use std::alloc::Global;
 use tariffs::{filters, three_tariffs, written};

@@ -4,7 +4,7 @@ ghost use Rattle.std.specs.Prelude.{◌<◌, length, IfSome};
 ghost use Rattle.std.specs.Iterator.{at_most};
 
 use cells::{Cell, Prefix};
-use query::first_record;
+use records::first_record;
 use reply::{CellKind, RecordKind};
 use std::fmt;
 use tariffs::counts;

@@ -6,10 +6,10 @@ use Rattle.std.proofs.lemmas.List.{length-map}
 use Rattle.std.proofs.lemmas.List.Folds.{length-flat_map-take}
 use Rattle.std.proofs.lemmas.List.{get_or-map}
 use Rattle.semantics.specs.Conditions.{term_number, term_body, term_bytes}
-use Rattle.query.specs.declared.term.Term.{Term}
-use Rattle.query.specs.declared.kind.RecordKind.TheVariants.{Select}
-use Rattle.query.specs.RecordKinds.{record_kind_number}
-use Rattle.query.specs.Terms.{term_of}
+use Rattle.records.specs.declared.term.Term.{Term}
+use Rattle.records.specs.declared.kind.RecordKind.TheVariants.{Select}
+use Rattle.records.specs.RecordKinds.{record_kind_number}
+use Rattle.records.specs.Terms.{term_of}
 use Rattle.writing.specs.declared.error.WriteError.{WriteError}
 use Rattle.writing.specs.declared.error.WriteError.TheVariants.{TooLong, OutOfMemory}
 use Rattle.writing.specs.Writing.{Appends}

@@ -4,8 +4,8 @@ use Rattle.std.specs.List.{flat_map}
 use Rattle.semantics.specs.Bytes.{record_bytes}
 use Rattle.semantics.specs.Conditions.{Term, term_bytes}
 use Rattle.semantics.specs.Records.{Record, record_number, record_body}
-use Rattle.query.specs.declared.kind.RecordKind.TheVariants.{Select}
-use Rattle.query.specs.RecordKinds.{record_kind_number}
+use Rattle.records.specs.declared.kind.RecordKind.TheVariants.{Select}
+use Rattle.records.specs.RecordKinds.{record_kind_number}
 use Rattle.writing.specs.declared.error.WriteError.{WriteError}
 use Rattle.writing.specs.declared.error.WriteError.TheVariants.{TooLong, OutOfMemory}
 

@@ -1,14 +1,14 @@
 ghost use Rattle.std.specs.Prelude.{◌≡◌, [], map};
 ghost use Rattle.semantics.specs.Records.{table_record, project_record, product_record, union_record, difference_record};
-ghost use Rattle.query.specs.RecordKinds.{record_kind_number};
-ghost use Rattle.query.specs.Terms.{term_of};
+ghost use Rattle.records.specs.RecordKinds.{record_kind_number};
+ghost use Rattle.records.specs.Terms.{term_of};
 ghost use Rattle.writing.specs.Queries.{query_bytes};
 ghost use Rattle.writing.specs.Writing.{Appends, Selects, Writes};
 
 use crate::condition::condition;
 use crate::error::WriteError;
 use crate::record::record;
-use query::{RecordKind, Term};
+use records::{RecordKind, Term};
 use std::alloc::Global;
 
 /// The bytes of a query in the making.

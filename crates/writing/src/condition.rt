@@ -1,14 +1,14 @@
 ghost use Rattle.std.specs.Prelude.{◌∷◌};
 ghost use Rattle.semantics.specs.Conditions.{term_number, term_body};
 ghost use Rattle.semantics.specs.Operators.{operator_number};
-ghost use Rattle.query.specs.declared.kind.TermKind.TheVariants.{ByPrefix};
-ghost use Rattle.query.specs.RecordKinds.{term_kind_number};
-ghost use Rattle.query.specs.Terms.{term_of};
+ghost use Rattle.records.specs.declared.kind.TermKind.TheVariants.{ByPrefix};
+ghost use Rattle.records.specs.RecordKinds.{term_kind_number};
+ghost use Rattle.records.specs.Terms.{term_of};
 ghost use Rattle.writing.specs.Writing.{Appends};
 
 use crate::error::WriteError;
 use crate::record::record;
-use query::{Term, TermKind};
+use records::{Term, TermKind};
 use semantics::Operator;
 
 /// Appends a record of a condition.

@@ -1,5 +1,5 @@
 use crate::builder::Query;
-use query::Term;
+use records::Term;
 use semantics::Operator;
 use std::test::Fail;
 

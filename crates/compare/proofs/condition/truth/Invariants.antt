@@ -1,6 +1,6 @@
 use Rattle.std.proofs.Common.{◌≡◌, [], map}
 use Rattle.view.specs.Views.{masked_of}
-use Rattle.query.specs.Terms.{terms_in, terms_left}
+use Rattle.records.specs.Terms.{terms_in, terms_left}
 use Rattle.compare.specs.Stacks.{stack_of}
 use Rattle.compare.proofs.Walking.{after}
 use Rattle.compare.proofs.condition.truth.Given as goal
