@@ -1,3 +1,4 @@
+use crate::book::Book;
 use crate::draft::Draft;
 use cells::{Cell, Prefix};
 use semantics::Refusal;
@@ -42,47 +43,69 @@ fn the_last_row_and_one_more(rt: HostRuntime) -> Result<(), Fail> {
     Ok(())
 }
 
-#[test]
-fn rows_move_up(rt: HostRuntime) -> Result<(), Fail> {
-    let mut memory = [USED; 96];
+/// A number and a prefix in table 1.
+fn columns() -> Result<Draft, Refusal> {
     let mut draft = Draft::new();
     draft.declare(1, 1, 0)?;
     draft.declare(1, 2, 1)?;
-    let mut book = draft.open(&mut memory);
-    let digits = Cell::Prefix(Prefix::from_bytes(b"47")?);
-    let number = Cell::Number(1);
+    Ok(draft)
+}
+
+fn digits() -> Result<Cell, Refusal> {
+    Ok(Cell::Prefix(Prefix::from_bytes(b"47")?))
+}
+
+/// Rows 1, 2 and 3 in table 1.
+fn store_three(book: &mut Book<'_>) -> Result<(), Refusal> {
     for n in 1..4 {
-        book.store(1, &[Cell::Number(n), digits])?;
+        book.store(1, &[Cell::Number(n), digits()?])?;
     }
+    Ok(())
+}
+
+#[test]
+fn the_first_fault_of_a_row(rt: HostRuntime) -> Result<(), Fail> {
+    let mut memory = [USED; 96];
+    let mut book = columns()?.open(&mut memory);
+    store_three(&mut book)?;
+    let digits = digits()?;
     let rows = [
         (4, [].as_slice(), Refusal::NoTable),
         (0, &[], Refusal::WrongWidth),
-        (1, &[number, number, number], Refusal::WrongWidth),
-        (1, &[number, number], Refusal::WrongKind(1)),
-        (1, &[digits, number], Refusal::WrongKind(0)),
-        (1, &[number, digits], Refusal::TableFull),
+        (1, &[USED, USED, USED], Refusal::WrongWidth),
+        (1, &[USED, USED], Refusal::WrongKind(1)),
+        (1, &[digits, USED], Refusal::WrongKind(0)),
+        (1, &[USED, digits], Refusal::TableFull),
     ];
     for (table, row, fault) in rows {
         assert_eq!(rt; book.store(table, row), Err(fault));
     }
-    book.strike(1, 0)?;
     let cells = [
         (4, 9, 9, Refusal::NoTable),
-        (1, 2, 9, Refusal::NoRow),
-        (1, 1, 2, Refusal::NoColumn),
-        (1, 1, 0, Refusal::WrongKind(0)),
+        (1, 3, 9, Refusal::NoRow),
+        (1, 2, 2, Refusal::NoColumn),
+        (1, 2, 0, Refusal::WrongKind(0)),
     ];
     for (table, row, column, fault) in cells {
         assert_eq!(rt; book.amend(table, row, column, digits), Err(fault));
     }
+    Ok(())
+}
+
+#[test]
+fn rows_move_up(rt: HostRuntime) -> Result<(), Fail> {
+    let mut memory = [USED; 96];
+    let mut book = columns()?.open(&mut memory);
+    store_three(&mut book)?;
+    let digits = digits()?;
+    book.strike(1, 1)?;
     book.amend(1, 1, 0, Cell::Number(7))?;
-    assert!(rt; book.row(1, 0) == Some(&[Cell::Number(2), digits]));
+    assert!(rt; book.row(1, 0) == Some(&[Cell::Number(1), digits]));
     assert!(rt; book.row(1, 1) == Some(&[Cell::Number(7), digits]));
     assert!(rt; book.row(1, 2).is_none());
-    book.strike(1, 1)?;
+    book.strike(1, 0)?;
     book.strike(1, 0)?;
     assert_eq!(rt; book.strike(1, 0), Err(Refusal::NoRow));
-    assert!(rt; book.rows(1).next().is_none());
     assert!(rt; memory == [Cell::ZERO; 96]);
     Ok(())
 }
