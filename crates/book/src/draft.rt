@@ -102,8 +102,7 @@ impl Draft {
         columns.push(column).unwrap();
     }
 
-    // The kind is a number, since a number that no kind has is one of the refusals.
-    /// Adds a column of this kind and domain at the end of a table.
+    /// Adds a column at the end of a table: of the kind that has this number, in this domain.
     pub fn declare(&mut self, table: usize, kind: u8, domain: u8) -> Result<(), Refusal>
         ensures { Steps result (declared self.old table kind domain) self.old self.new }
     {

@@ -6,6 +6,8 @@ mod book;
 mod columns;
 mod draft;
 mod slot;
+#[cfg(test)]
+mod tests;
 mod walk;
 
 pub use book::Book;

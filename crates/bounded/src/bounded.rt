@@ -80,7 +80,7 @@ impl<T: Copy, const N: usize> Bounded<T, N> {
 
     /// Takes the last item off, where there is one.
     pub fn pop(&mut self) -> Option<T>
-        ensures { MatchOption result ((items self.old ≡ []) × (self.new ≡ self.old)) (λ last. items self.old ≡ items self.new ++ last ∷ []) }
+        ensures { MatchOption result ((items self.old ≡ []) × (self.new ≡ self.old)) (λ x. items self.old ≡ items self.new ++ x ∷ []) }
     {
         let last = self.count.checked_sub(1)?;
         self.count = last;

@@ -4,6 +4,8 @@
 
 mod cell;
 mod prefix;
+#[cfg(test)]
+mod tests;
 
 pub use cell::Cell;
 pub use prefix::{Prefix, is_prefix};

@@ -2,7 +2,6 @@
 
 #![tactic(auto)]
 
-mod mark;
 mod parts;
 mod pile;
 #[cfg(test)]
