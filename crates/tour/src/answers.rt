@@ -15,7 +15,6 @@ use writing::{Query, WriteError};
 /// Holds for a tariff whose prefix covers 47110.
 const COVERS: Term<'static> = Term::ByPrefix(Operator::Covers, 0, b"47110");
 
-// Here and below, and in `bench` of another table: a shared one would be no shorter than its contract.
 /// Some columns of all tariffs.
 fn projected(heap: Global, columns: &[u8]) -> Result<Query, WriteError> {
     let mut query = Query::new(heap);
@@ -33,8 +32,6 @@ fn selected(heap: Global, condition: &[Term<'_>]) -> Result<Query, WriteError> {
 }
 
 /// Adds the tariffs whose prefix covers 47110.
-// Here and in `bench`: a function of the two, by table, digits and columns, belongs to a library, where its
-// contract says the ten records once more.
 fn add_covering(query: &mut Query) -> Result<(), WriteError> {
     query.table(0)?;
     query.select(&[COVERS])

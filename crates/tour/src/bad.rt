@@ -19,7 +19,6 @@ fn full() -> Result<Draft, Refusal> {
 pub(crate) fn declarations(rt: &HostRuntime) -> anyhow::Result<()> {
     let mut draft = full().context("the columns were refused")?;
     println!(rt; "Bad calls are refused, with the first fault:")?;
-    // By bare numbers, as 3 is the number of no kind.
     for (call, table, kind, domain) in [
         ("declare table 4: a number", 4, 1, 0),
         ("declare table 3: a ninth column", 3, 1, 0),

@@ -32,8 +32,6 @@ pub(crate) fn tariffs(rt: &HostRuntime, book: &Book<'_>) -> anyhow::Result<()> {
 }
 
 /// Customer 501 and 502 let brokers see their offers, and which offers are one customer's, but not whose.
-// Here and in `worked`: a function of the two belongs to `tariffs`, where the proof of a set that
-// `array::from_fn` makes did not close.
 fn consents() -> Result<Consents, Refusal> {
     let mut consents = Consents::new();
     let shown = array::from_fn(|column| column == 1);

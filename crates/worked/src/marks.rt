@@ -82,8 +82,6 @@ fn set(columns: &[usize]) -> [bool; 8] {
 }
 
 /// A customer's consent.
-// Here and in `sample`: a function of the two belongs to `tariffs`, where the proof of a set that
-// `array::from_fn` makes did not close.
 fn consent(key: u32, shown: &[usize], linked: &[usize]) -> Consent {
     Consent {
         key,

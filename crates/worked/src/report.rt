@@ -33,7 +33,6 @@ impl FromStr for Stock {
 }
 
 /// What a line asks: a book, a broker, how much of the memory is lent, and a query.
-// The two lengths stand here and not in slices: a line names them, as they are what is tested.
 #[derive(Drop)]
 pub(crate) struct Asked {
     pub(crate) stock: Stock,
