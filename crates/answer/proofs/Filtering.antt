@@ -20,7 +20,7 @@ pub row_apart : (limit first : ℕ) (old mid : List Masked) (from : Block) (i : 
     → x ≡ get_or (block_rows mid from) i [] → x ≡ get_or (block_rows old from) i []
 row_apart limit first old mid from i x u a e = e ∙ ap (λ l. get_or l i []) (block_apart first limit old mid from u a)
 
--- what stands beside a output does so while it is filled
+-- what stands beside an output does so while it is filled
 pub beside_kept : {start output : Output} {w : ℕ} {b : Block} → Same start output → Wrote start.limit start.rows.first w start.work.now output.work.now output.rows → Beside start b → Beside output b
 beside_kept {start} {output} {w} {b} same p beside = record {
   apart = subst (λ n. Apart n output.limit b) (sym p.begins) (subst (λ n. Apart start.rows.first n b) (sym same.limit_kept) beside.apart);

@@ -1,4 +1,4 @@
--- The loop that goes over some rows and puts each into a output, unless it is there.
+-- The loop that goes over some rows and puts each into an output, unless it is there.
 use Rattle.std.proofs.Common.{◌≡◌, ℕ, ◌+◌, ◌<◌, ◌≤◌, List, [], ◌∷◌, ◌++◌, map, length, get_or, take, drop, Some, None, Option, sym, ap, ◌∙◌, subst, arith}
 use Rattle.std.specs.Borrow.{Bor}
 use Rattle.std.specs.Option.{unwrap_or}
@@ -63,7 +63,7 @@ module _ (limit first width : ℕ) (old mid : List Masked) (to : Block) (given s
           let g = seen-rest src i x h is in
           inserts_full limit first width old mid new to (given ++ take i src) x before (drop (i + 1) src) (given ++ src) (cc) m
 
--- The loop of a output.
+-- The loop of an output.
 module _ (finds : Bor (List Masked) → ℕ → Row → Type 0) (start : Output) (count : ℕ) where
   -- The rows before number `i` stand in the output, without repeats.
   pub record Gathering (output : Output) (i : ℕ) : Type 0 where
@@ -104,7 +104,7 @@ module _ (finds : Bor (List Masked) → ℕ → Row → Type 0) (start : Output)
 pub gathered_early : (limit first width : ℕ) (old new : List Masked) (xs ys : Rows) → Makes limit first width (without_repeats xs) old new None → Makes limit first width (without_repeats (xs ++ ys)) old new None
 gathered_early limit first width old new xs ys m = let l = without-longer xs ys in (omega (arith, m.0), m.1)
 
--- What a output is filled with once it has begun anew, or was filled with before.
+-- What an output is filled with once it has begun anew, or was filled with before.
 pub makes_after : {start mid : Output} {w : ℕ} → Same start mid → Wrote start.limit start.rows.first w start.work.now mid.work.now mid.rows → (new : List Masked) (rows : Rows) (r : Option Block)
     → Makes mid.limit mid.rows.first mid.rows.width rows mid.work.now new r → Makes start.limit start.rows.first w rows start.work.now new r
 makes_after {start} {mid} {w} same wrote new rows (Some b) m =
@@ -123,12 +123,12 @@ picked_at {rows} {there} e columns i h =
     let m = length-map rows (picked columns) in
     ap (λ l. picked columns (get_or l i [])) e ∙ sym (get_or-map (picked columns) rows i [] [] (omega arith))
 
--- what is made stands in its output
+-- what is made stands in its region
 pub makes_within : (limit first w : ℕ) (rows : Rows) (old new : List Masked) (r : Option Block) → Makes limit first w rows old new r → InRegion limit first r
 makes_within limit first w rows old new (Some b) m = (m.0.begins, m.0.few)
 makes_within limit first w rows old new None m = tt
 
--- the rows of a block, gathered into a output that has begun anew
+-- the rows of a block, gathered into an output that has begun anew
 pub gathered_first : (finds : Bor (List Masked) → ℕ → Row → Type 0) (start output filled : Output) {w : ℕ} (b : Block) {found : Block} → found ≡ filled.rows
     → ((given rows : Rows) → output_rows output ≡ without_repeats given → length rows ≡ b.count → Lists finds output rows → Makes output.limit output.rows.first output.rows.width (without_repeats (given ++ rows)) output.work.now filled.work.now (Some found))
     → Same start output → Wrote start.limit start.rows.first w start.work.now output.work.now output.rows → output.rows.count ≡ 0 → Beside start b

@@ -1,4 +1,4 @@
--- The rows of the 30 slots of a workspace do not meet.
+-- The 30 regions of a workspace do not meet.
 use Rattle.std.proofs.Common.{◌≡◌, ℕ, suc, ◌+◌, ◌*◌, ◌<◌, ◌≤◌, length, get_or, Some, None, sym, refl, ap, ◌∙◌, subst, inl, inr, ⊎_elim, mul-le-mul_right, suc-mul, arith}
 use Rattle.std.proofs.lemmas.Bool.{cases_lt}
 use Rattle.workspace.specs.declared.block.Block.{Block}
@@ -10,7 +10,7 @@ use Rattle.answer.specs.Notes.{Turned, Outside, Lies}
 use Rattle.answer.specs.Regions.{Apart}
 use Rattle.answer.specs.Outputs.{Beside}
 
--- a output ends where the next begins
+-- a region ends where the next begins
 pub region-end : (limit k s : ℕ) → k < s → k * limit + limit ≤ s * limit
 region-end limit k s h = omega (arith, mul-le-mul_right {m = suc k} {n = s} limit h, suc-mul k limit)
 
@@ -18,7 +18,7 @@ pub region-low : (bound : Bound) (i : ℕ) → i < 15 → region bound i < 30
 region-low Low i h = omega arith
 region-low High i h = omega arith
 
--- each answer has a output of its own
+-- each answer has a region of its own
 pub region_same : (b c : Bound) (i j : ℕ) → region b i ≡ region c j → (b ≡ c) × (i ≡ j)
 region_same Low Low i j e = (refl, omega arith)
 region_same Low High i j e = absurd (omega arith)
@@ -38,7 +38,7 @@ module _ (limit s : ℕ) (few : limit ≤ 512) (low : s < 30) where
   pub block_room : (n : ℕ) (b : Block) → 240 * limit ≤ n → b.first ≡ s * limit → b.count ≤ limit → 8 * (b.first + b.count) ≤ n
   block_room n b h e f = omega (arith, region-room n h)
 
--- the block of another output is apart
+-- the block of another region is apart
 pub regions_apart : (limit k s : ℕ) (x : Block) → (k ≡ s → ⊥) → x.first ≡ k * limit → x.count ≤ limit → Apart (s * limit) limit x
 regions_apart limit k s x apart begins few =
     ⊎_elim
@@ -46,7 +46,7 @@ regions_apart limit k s x apart begins few =
     (λ (h : s ≤ k). inr (omega (arith, region-end limit s k (omega arith))))
     (cases_lt k s)
 
--- what stands in another output is outside this one
+-- what stands in another region is outside this one
 pub outside_region : (memo : Memo) (bound b : Bound) (i j : ℕ) {x : Block} → j < 15 → (region b j ≡ region bound i → ⊥) → (x.first ≡ region b j * memo.output.limit) × (x.count ≤ memo.output.limit) → Outside memo bound i x
 outside_region memo bound b i j {x} low apart at = record {
   apart = regions_apart memo.output.limit (region b j) (region bound i) x apart at.0 at.1;

@@ -30,7 +30,7 @@ abbrev pub takes_out : Bound → List Masked → List Masked → Bool
 takes_out Low = compatible
 takes_out High = same_row
 
--- The place of a record's answer among the 30 of a workspace.
+-- The number of the region, among the 30 of a workspace, that has a record's answer.
 abbrev pub region : Bound → ℕ → ℕ
 region Low i = 2 * i
 region High i = 2 * i + 1

@@ -1,4 +1,4 @@
--- The answers that have been found, each in its place of the workspace.
+-- The answers that have been found, each in its own region of the workspace.
 use Rattle.std.specs.Prelude.{◌≡◌, ℕ, ◌*◌, ◌<◌, ◌≤◌, true, List, [], length, get_or, Some, None, Option, Ok, Err, Result, slice_index_or}
 use Rattle.semantics.specs.declared.kind.Column.{Column}
 use Rattle.semantics.specs.declared.refusal.Refusal.{Refusal}
@@ -23,7 +23,7 @@ pub record Over (columns : List (List Column)) (view : View) (bytes : List ℕ) 
   pub formed : well_formed columns q ≡ true
   pub wide : (t : ℕ) → width_in view t ≡ length (slice_index_or columns t [])
 
--- Every answer that has been found has its own place: that of output `k` begins at row `k * limit` and has at most `limit` rows.
+-- Every answer that has been found stands in its own region: region `k` begins at row `k * limit` and has at most `limit` rows.
 pub record Sound (limit : ℕ) (memo : List (Option Block)) : Type 0 where
   pub thirty : length memo ≡ 30
   pub begins : (k : ℕ) (b : Block) → slice_index_or memo k None ≡ Some b → b.first ≡ k * limit
@@ -36,7 +36,7 @@ pub record NotesHold (columns : List (List Column)) (view : View) (q : Tree) (ce
   pub holds : (bound : Bound) (i : ℕ) (b : Block) → i < length (nodes q) → slice_index_or memo (region bound i) None ≡ Some b
       → block_rows cells b ≡ answer_of bound (view_tables view) (relation (nodes q) i)
 
--- The answer of this output has been found.
+-- The answer of this region has been found.
 abbrev pub There : List (Option Block) → ℕ → Type 0
 There memo k = (b : Block) × (slice_index_or memo k None ≡ Some b)
 

@@ -18,7 +18,7 @@ rows_there output b = block_rows output.work.now b
 abbrev pub output_rows : Output → List (List semantics.Masked)
 output_rows output = rows_there output output.rows
 
--- It is as long as before, and its workspace is.
+-- It may have as many rows as before, and its workspace is as long.
 pub record Same (old new : Output) : Type 0 where
   pub limit_kept : new.limit ≡ old.limit
   pub long : length new.work.now ≡ length old.work.now
