@@ -13,14 +13,14 @@ use Rattle.view.specs.Views.{view_tables}
 use Rattle.workspace.specs.declared.block.Block.{Block}
 use Rattle.workspace.specs.Blocks.{block_rows}
 use Rattle.answer.specs.declared.bound.Bound.TheVariants.{Low, High}
-use Rattle.answer.specs.Bounds.{answer_of, takes_out, slot}
-use Rattle.answer.specs.Memos.{Sound, Held, TooLong}
-use Rattle.answer.specs.declared.slot.Slot.{Slot}
-use Rattle.answer.specs.Places.{Placed}
-use Rattle.answer.specs.Slots.{Beside}
+use Rattle.answer.specs.Bounds.{answer_of, takes_out, region}
+use Rattle.answer.specs.Memos.{Sound, NotesHold, TooLong}
+use Rattle.answer.specs.declared.output.Output.{Output}
+use Rattle.answer.specs.Regions.{Wrote}
+use Rattle.answer.specs.Outputs.{Beside}
 use Rattle.query.specs.Operations.{relation}
 use Rattle.answer.proofs.Standing.{Stands}
-use Rattle.answer.proofs.Places.{block_apart}
+use Rattle.answer.proofs.Writes.{block_apart}
 
 -- at first nothing is found
 nothing : (n k : ℕ) → get_or {A = Option Block} (replicate n None) k None ≡ None
@@ -38,10 +38,10 @@ sound_none limit = record {
   few = λ k b e. absurd (not_noted 30 k b e);
 }
 
-pub held_none : (columns : List (List Column)) (v : View) (q : Tree) (cells : List Masked) → Held columns v q cells (replicate 30 None)
+pub held_none : (columns : List (List Column)) (v : View) (q : Tree) (cells : List Masked) → NotesHold columns v q cells (replicate 30 None)
 held_none columns v q cells = record {
-  wide = λ bound i b h e. absurd (not_noted 30 (slot bound i) b e);
-  holds = λ bound i b h e. absurd (not_noted 30 (slot bound i) b e);
+  wide = λ bound i b h e. absurd (not_noted 30 (region bound i) b e);
+  holds = λ bound i b h e. absurd (not_noted 30 (region bound i) b e);
 }
 
 -- where no record has too many rows, none is found to have
@@ -73,7 +73,7 @@ root_is (union q r) = last (nodes q ++ nodes r) (union q r)
 root_is (difference q r) = last (nodes q ++ nodes r) (difference q r)
 
 -- The certain and the possible rows, where the latter are made beside the former.
-module _ (here : Slot) {columns : List (List Column)} {v : View} {q node : Tree} {cells : List Masked} {certain all : Block}
+module _ (here : Output) {columns : List (List Column)} {v : View} {q node : Tree} {cells : List Masked} {certain all : Block}
     (is : node ≡ q) (low : Stands columns v Low node cells certain) (up : Stands columns v High node cells all) (m : here.work.now ≡ cells) where
   low_rows_lem : block_rows here.work.now certain ≡ answers.low (view_tables v) q
   unfolding answer_of
@@ -84,7 +84,7 @@ module _ (here : Slot) {columns : List (List Column)} {v : View} {q node : Tree}
   high-rows = ap (λ w. block_rows w all) m ∙ up.holds ∙ ap (high (view_tables v)) is
 
   -- what is written beside the certain rows leaves them
-  pub certain-stay : {w : ℕ} {new : List Masked} {b : Block} → Placed here.limit here.rows.first w here.work.now new b → Beside here certain → block_rows new certain ≡ answers.certain (view_tables v) q
+  pub certain-stay : {w : ℕ} {new : List Masked} {b : Block} → Wrote here.limit here.rows.first w here.work.now new b → Beside here certain → block_rows new certain ≡ answers.certain (view_tables v) q
   certain-stay {w} {new} {b} p beside = block_apart here.rows.first here.limit here.work.now new certain p.untouched beside.apart ∙ low_rows_lem
 
   pub possible-are : (new : List Masked) (b : Block) → block_rows new b ≡ filter (λ x. not (some (takes_out High x) (block_rows here.work.now certain))) (block_rows here.work.now all) → block_rows new b ≡ answers.possible (view_tables v) q

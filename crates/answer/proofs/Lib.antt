@@ -1,9 +1,9 @@
-pub mod Places
+pub mod Writes
 pub mod Loops
 pub mod Filtering
 pub mod Gathering
 pub mod Pairing
-pub mod Slots
+pub mod Regions
 pub mod Relations
 pub mod Standing
 pub mod Settling

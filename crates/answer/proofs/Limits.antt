@@ -13,7 +13,7 @@ use Rattle.view.specs.Views.{view_tables}
 use Rattle.workspace.specs.declared.block.Block.{Block}
 use Rattle.workspace.proofs.Reading.{length_rows}
 use Rattle.answer.specs.declared.bound.Bound.TheVariants.{High}
-use Rattle.answer.specs.Bounds.{answer_of, slot}
+use Rattle.answer.specs.Bounds.{answer_of, region}
 use Rattle.answer.specs.Memos.{Sound, Settled, TooLong}
 use Rattle.query.specs.Operations.{relation}
 
@@ -24,7 +24,7 @@ unfolding answer_of
 high-few limit columns v q i cells old new b h sound s =
     let e = ap length (s.held.holds High i b h s.here) in
     let l = length_rows cells b in
-    omega (arith, sound.few (slot High i) b s.here)
+    omega (arith, sound.few (region High i) b s.here)
 
 module _ (limit : ℕ) (v : View) (q : Tree) where
   abbrev many : Tree → Bool

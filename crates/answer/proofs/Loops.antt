@@ -9,19 +9,19 @@ use Rattle.semantics.proofs.Pushes.{kept_push, without-push}
 use Rattle.view.specs.declared.masked.Masked.{Masked}
 use Rattle.workspace.specs.declared.block.Block.{Block}
 use Rattle.workspace.specs.Blocks.{block_rows}
-use Rattle.answer.specs.Places.{Untouched, Placed, Makes, inserted}
-use Rattle.answer.proofs.Places.{untouched-more}
+use Rattle.answer.specs.Regions.{Untouched, Wrote, Makes, inserted}
+use Rattle.answer.proofs.Writes.{untouched-more}
 
 abbrev Rows : Type 0
 Rows = List (List semantics.Masked)
 
 -- one part of a block written after another
-module _ (limit first width : ℕ) (old mid new : List Masked) (to : Block) (before : Placed limit first width old mid to) where
+module _ (limit first width : ℕ) (old mid new : List Masked) (to : Block) (before : Wrote limit first width old mid to) where
   pub untouched-after : Untouched to.first limit mid new → Untouched first limit old new
   untouched-after u = untouched-more first limit old mid new before.untouched (subst (λ f. Untouched f limit mid new) before.begins u)
 
-  pub placed-after : (b : Block) → Placed limit to.first to.width mid new b → Placed limit first width old new b
-  placed-after b p = record {
+  pub wrote-after : (b : Block) → Wrote limit to.first to.width mid new b → Wrote limit first width old new b
+  wrote-after b p = record {
     begins = p.begins ∙ before.begins;
     few = p.few;
     wide = p.wide ∙ before.wide;
@@ -52,7 +52,7 @@ module _ (limit first width : ℕ) (old mid new : List Masked) (to : Block) (don
   next = ap (λ l. inserted l x) before.1 ∙ inserted-is done x
 
   pub inserts_more : (b : Block) → Makes limit to.first to.width (inserted (block_rows mid to) x) mid new (Some b) → Makes limit first width (without_repeats (done ++ x ∷ [])) old new (Some b)
-  inserts_more b m = (placed-after limit first width old mid new to before.0 b m.0, m.1 ∙ next)
+  inserts_more b m = (wrote-after limit first width old mid new to before.0 b m.0, m.1 ∙ next)
 
   pub inserts_full : (rest all : Rows) → (done ++ x ∷ []) ++ rest ≡ all → Makes limit to.first to.width (inserted (block_rows mid to) x) mid new None → Makes limit first width (without_repeats all) old new None
   inserts_full rest all e m =

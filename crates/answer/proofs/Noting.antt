@@ -1,16 +1,13 @@
 -- The answer of a relation is noted once those of its parts have been found.
-use Rattle.std.proofs.Common.{◌≡◌, ℕ, ◌+◌, ◌*◌, ◌<◌, ◌≤◌, List, [], length, get_or, Some, None, Option, sym, refl, ap, ap₂, ◌∙◌, subst, arith}
+use Rattle.std.proofs.Common.{◌≡◌, ℕ, ◌+◌, ◌*◌, ◌<◌, List, [], length, get_or, Some, None, Option, sym, refl, ap, ap₂, ◌∙◌, subst, arith}
 use Rattle.std.proofs.lemmas.List.{length-map, length-append}
 use Rattle.std.specs.Borrow.{Bor}
 use Rattle.semantics.specs.declared.kind.Column.{Column}
-use Rattle.semantics.specs.declared.refusal.Refusal.{Refusal}
 use Rattle.semantics.specs.declared.refusal.Refusal.TheVariants.{WrongForm}
-use Rattle.semantics.specs.Answers.{without_repeats, paired}
-use Rattle.semantics.specs.Conditions.{Condition, kind_at}
-use Rattle.semantics.specs.Outcomes.{done}
+use Rattle.semantics.specs.Answers.{paired}
+use Rattle.semantics.specs.Conditions.{kind_at}
 use Rattle.semantics.specs.Queries as queries
 use Rattle.semantics.specs.Queries.{Tree, nodes, kinds_of, proper}
-use Rattle.semantics.specs.Reading.{condition_form}
 use Rattle.semantics.specs.Views as semantics
 use Rattle.query.specs.declared.operation.Operation.{Operation}
 use Rattle.query.specs.declared.operation.Operation.TheVariants.{Table, Select, Project, Product, Union, Difference}
@@ -21,14 +18,16 @@ use Rattle.workspace.specs.declared.block.Block.{Block}
 use Rattle.answer.specs.declared.bound.Bound.{Bound}
 use Rattle.answer.specs.declared.memo.Memo.{Memo}
 use Rattle.answer.specs.declared.task.Task.{Task}
-use Rattle.answer.specs.Bounds.{answer_of, other, selected, projected, united, subtracted, slot}
-use Rattle.answer.specs.Memos.{Over, Held, Grown, Settled, Found}
-use Rattle.answer.specs.Notes.{rows_in, noted, Lies, Notes, OtherOfTable, Answers}
-use Rattle.answer.specs.Places.{Makes}
+use Rattle.answer.specs.Bounds.{answer_of, other, selected, projected, merged, subtracted, region}
+use Rattle.answer.specs.Memos.{Over, NotesHold, StaysNoted, Settled, SettledOr}
+use Rattle.answer.specs.Notes.{noted, Lies, Notes, NotesTable, NotesSelect, NotesProduct, NotesUnion, Settles}
+use Rattle.answer.specs.Outputs.{rows_there}
+use Rattle.answer.specs.Rows.{listed}
+use Rattle.answer.specs.Regions.{Makes}
 use Rattle.answer.proofs.Standing.{Stands, stands, still_stands}
 use Rattle.answer.proofs.Relations.{answer-table, answer-select, answer-project, answer-product, answer-union, answer-difference, product_narrow, union-fitted, relation-proper}
 use Rattle.answer.proofs.Settling.{settle, too_long}
-use Rattle.answer.proofs.Slots.{slot-low}
+use Rattle.answer.proofs.Regions.{region-low}
 
 -- What a record says in each query that has this plan.
 abbrev pub Reads : Task → ℕ → Operation → Type 0
@@ -37,132 +36,132 @@ Reads task i o = (columns : List (List Column)) (qs : List Tree) → Plans colum
 -- over one query
 module _ (task : Task) {columns : List (List Column)} {q : Tree} (over : Over columns task.view.now task.query.now task.plan.now q) where
   -- When the parts of an answer have been found, what was found before still is.
-  record Found-parts (old now : Memo) : Type 0 where
-    limit_kept : now.slot.limit ≡ old.slot.limit
-    held : Held columns task.view.now q now.slot.work.now now.found
-    grown : Grown old.found now.found
+  record PartsFound (old now : Memo) : Type 0 where
+    limit_kept : now.output.limit ≡ old.output.limit
+    held : NotesHold columns task.view.now q now.output.work.now now.found
+    grown : StaysNoted old.found now.found
 
-  noting : (bound : Bound) (i : ℕ) → i < 15 → i < length (nodes q) → (old mid new : Memo) (r : Option Block) → Found-parts old mid → (w : ℕ) (rows : List (List semantics.Masked)) (whole : Tree) → relation (nodes q) i ≡ whole
-      → w ≡ length (kinds_of columns whole) → rows ≡ answer_of bound (view_tables task.view.now) whole → Notes bound i w rows mid new r
-      → Found old.slot.limit columns task.view.now q bound i new.slot.work.now old.found new.found r
-  noting bound i low h old mid new r p w rows whole is wide are m = go r m.found
-      (subst (λ x. Makes mid.slot.limit (slot bound i * mid.slot.limit) (length (kinds_of columns (relation (nodes q) i))) x mid.slot.work.now new.slot.work.now r) (are ∙ ap (answer_of bound (view_tables task.view.now)) (sym is))
-      (subst (λ n. Makes mid.slot.limit (slot bound i * mid.slot.limit) n rows mid.slot.work.now new.slot.work.now r) (wide ∙ ap (λ n. length (kinds_of columns n)) (sym is)) m.makes))
+  noting : (bound : Bound) (i : ℕ) → i < 15 → i < length (nodes q) → (old mid new : Memo) (r : Option Block) → PartsFound old mid → (w : ℕ) (made : (Block → List (List semantics.Masked)) → List (List semantics.Masked)) (whole : Tree) → relation (nodes q) i ≡ whole
+      → w ≡ length (kinds_of columns whole) → made (rows_there mid.output) ≡ answer_of bound (view_tables task.view.now) whole → Notes bound i w made mid new r
+      → SettledOr old.output.limit columns task.view.now q bound i new.output.work.now old.found new.found r
+  noting bound i low h old mid new r p w made whole is wide are m = go r m.found
+      (subst (λ x. Makes mid.output.limit (region bound i * mid.output.limit) (length (kinds_of columns (relation (nodes q) i))) x mid.output.work.now new.output.work.now r) (are ∙ ap (answer_of bound (view_tables task.view.now)) (sym is))
+      (subst (λ n. Makes mid.output.limit (region bound i * mid.output.limit) n (made (rows_there mid.output)) mid.output.work.now new.output.work.now r) (wide ∙ ap (λ n. length (kinds_of columns n)) (sym is)) m.makes))
     where
-      go : (r : Option Block) → new.found ≡ noted mid.found (slot bound i) r
-          → Makes mid.slot.limit (slot bound i * mid.slot.limit) (length (kinds_of columns (relation (nodes q) i))) (answer_of bound (view_tables task.view.now) (relation (nodes q) i)) mid.slot.work.now new.slot.work.now r
-          → Found old.slot.limit columns task.view.now q bound i new.slot.work.now old.found new.found r
+      go : (r : Option Block) → new.found ≡ noted mid.found (region bound i) r
+          → Makes mid.output.limit (region bound i * mid.output.limit) (length (kinds_of columns (relation (nodes q) i))) (answer_of bound (view_tables task.view.now) (relation (nodes q) i)) mid.output.work.now new.output.work.now r
+          → SettledOr old.output.limit columns task.view.now q bound i new.output.work.now old.found new.found r
       go (Some b) f m =
-          let s = settle mid.slot.limit columns task.view.now q bound i mid.slot.work.now new.slot.work.now mid.found mid.sound (omega (arith, slot-low bound i low, mid.sound.thirty)) b p.held m in
-          subst (λ l. Settled columns task.view.now q bound i new.slot.work.now old.found l b) (sym f) (record { held = s.held; grown = λ k there. s.grown k (p.grown k there); here = s.here })
-      go None f m = too_long old.slot.limit columns task.view.now q bound i over.wide over.formed h (omega (arith, m.0, p.limit_kept))
+          let s = settle mid.output.limit columns task.view.now q bound i mid.output.work.now new.output.work.now mid.found mid.sound (omega (arith, region-low bound i low, mid.sound.thirty)) b p.held m in
+          subst (λ l. Settled columns task.view.now q bound i new.output.work.now old.found l b) (sym f) (record { held = s.held; grown = λ k there. s.grown k (p.grown k there); here = s.here })
+      go None f m = too_long old.output.limit columns task.view.now q bound i over.wide over.formed h (omega (arith, m.0, p.limit_kept))
 
   -- the only part, or the left one
-  module _ {bound : Bound} {i j : ℕ} {old mid : Memo} {left : Block} (lies : Lies bound j old mid (Some left)) (one : Answers task bound j old mid (Some left)) (below : j < i) (h : i < length (nodes q))
-      (held : Held columns task.view.now q old.slot.work.now old.found) where
-    first : Settled columns task.view.now q bound j mid.slot.work.now old.found mid.found left
-    first = one.over columns q over (omega arith) held
+  module _ {bound : Bound} {i j : ℕ} {old mid : Memo} {left : Block} (lies : Lies bound j old mid (Some left)) (one : Settles task bound j old mid (Some left)) (below : j < i) (h : i < length (nodes q))
+      (held : NotesHold columns task.view.now q old.output.work.now old.found) where
+    first : Settled columns task.view.now q bound j mid.output.work.now old.found mid.found left
+    first = one.each columns q over held (omega arith)
 
-    first-parts : Found-parts old mid
+    first-parts : PartsFound old mid
     first-parts = record { limit_kept = lies.limit_kept; held = first.held; grown = first.grown }
 
-    first-stands : Stands columns task.view.now bound (relation (nodes q) j) mid.slot.work.now left
+    first-stands : Stands columns task.view.now bound (relation (nodes q) j) mid.output.work.now left
     first-stands = stands (omega arith) first
 
     -- and the right one
-    module _ {other-bound : Bound} {k : ℕ} {last : Memo} {right : Block} (lies' : Lies other-bound k mid last (Some right)) (two : Answers task other-bound k mid last (Some right)) (below' : k < i) where
-      second : Settled columns task.view.now q other-bound k last.slot.work.now mid.found last.found right
-      second = two.over columns q over (omega arith) first.held
+    module _ {other-bound : Bound} {k : ℕ} {last : Memo} {right : Block} (lies' : Lies other-bound k mid last (Some right)) (two : Settles task other-bound k mid last (Some right)) (below' : k < i) where
+      second : Settled columns task.view.now q other-bound k last.output.work.now mid.found last.found right
+      second = two.each columns q over first.held (omega arith)
 
-      both-parts : Found-parts old last
+      both-parts : PartsFound old last
       both-parts = record { limit_kept = lies'.limit_kept ∙ lies.limit_kept; held = second.held; grown = λ n there. second.grown n (first.grown n there) }
 
-      left-stands : Stands columns task.view.now bound (relation (nodes q) j) last.slot.work.now left
+      left-stands : Stands columns task.view.now bound (relation (nodes q) j) last.output.work.now left
       left-stands = still_stands (omega arith) lies'.limit_kept mid.sound last.sound first second
 
-      right-stands : Stands columns task.view.now other-bound (relation (nodes q) k) last.slot.work.now right
+      right-stands : Stands columns task.view.now other-bound (relation (nodes q) k) last.output.work.now right
       right-stands = stands (omega arith) second
 
 -- the answer of a table
 pub table-answers : {task : Task} {bound : Bound} {i t : ℕ} {old new : Memo} {r : Option Block} → i < 15 → Reads task i (Table t)
-    → (OtherOfTable old bound i task.view.now t → Notes bound i (width_in task.view.now t) (without_repeats (get_or (view_tables task.view.now) t [])) old new r)
-    → Answers task bound i old new r
+    → NotesTable bound i task.view.now t old new r
+    → Settles task bound i old new r
 table-answers {task} {bound} {i} {t} {old} {new} {r} low reads m = record {
-  over = λ columns q over h held.
+  each = λ columns q over held h.
       let is = reads columns (nodes q) over.planned h in
       let wide = over.wide t ∙ sym (length-map (get_or columns t []) (λ column. column.kind)) in
       noting task over bound i low h old old new r (record { limit_kept = refl; held = held; grown = λ k there. there })
-      (width_in task.view.now t) (without_repeats (get_or (view_tables task.view.now) t [])) (queries.table t) is wide (answer-table (view_tables task.view.now) bound t)
+      (width_in task.view.now t) (λ rows. listed task.view.now t) (queries.table t) is wide (answer-table (view_tables task.view.now) bound t)
       (m (λ b there. (
         held.wide (other bound) i b h there ∙ ap (λ n. length (kinds_of columns n)) is ∙ sym wide,
         held.holds (other bound) i b h there ∙ ap (answer_of (other bound) (view_tables task.view.now)) is ∙ sym (answer-table (view_tables task.view.now) (other bound) t),
       )));
 }
 
-module _ {task : Task} {bound : Bound} {i j : ℕ} {old mid new : Memo} {left : Block} {r : Option Block} (low : i < 15) (lies : Lies bound j old mid (Some left)) (one : Answers task bound j old mid (Some left)) where
+module _ {task : Task} {bound : Bound} {i j : ℕ} {old mid new : Memo} {left : Block} {r : Option Block} (low : i < 15) (lies : Lies bound j old mid (Some left)) (one : Settles task bound j old mid (Some left)) where
   pub select-answers : (condition : Bor (List ℕ)) → j < i → Reads task i (Select j condition)
-      → ((e : Refusal) (c : Condition) → condition_form e condition.now ≡ done c → Notes bound i left.width (selected bound c (rows_in mid left)) mid new r) → Answers task bound i old new r
+      → NotesSelect bound i left condition.now mid new r → Settles task bound i old new r
   select-answers condition below reads m = record {
-    over = λ columns q over h held.
+    each = λ columns q over held h.
         let is = reads columns (nodes q) over.planned h in
         let x = relation (nodes q) j in
         let a = first-stands task over lies one below h held in
-        noting task over bound i low h old mid new r (first-parts task over lies one below h held) left.width (selected bound is.0 (rows_in mid left)) (queries.select is.0 x) is.2
+        noting task over bound i low h old mid new r (first-parts task over lies one below h held) left.width (λ rows. selected bound is.0 (rows left)) (queries.select is.0 x) is.2
         a.wide (ap (selected bound is.0) a.holds ∙ answer-select (view_tables task.view.now) bound is.0 x) (m (WrongForm i) is.0 is.1);
   }
 
-  pub project-answers : (cs : Bor (List ℕ)) → j < i → Reads task i (Project j cs) → Notes bound i (length cs.now) (projected cs.now (rows_in mid left)) mid new r → Answers task bound i old new r
+  pub project-answers : (cs : Bor (List ℕ)) → j < i → Reads task i (Project j cs) → Notes bound i (length cs.now) (λ rows. projected cs.now (rows left)) mid new r → Settles task bound i old new r
   project-answers cs below reads m = record {
-    over = λ columns q over h held.
+    each = λ columns q over held h.
         let is = reads columns (nodes q) over.planned h in
         let x = relation (nodes q) j in
         let a = first-stands task over lies one below h held in
-        noting task over bound i low h old mid new r (first-parts task over lies one below h held) (length cs.now) (projected cs.now (rows_in mid left)) (queries.project cs.now x) is
+        noting task over bound i low h old mid new r (first-parts task over lies one below h held) (length cs.now) (λ rows. projected cs.now (rows left)) (queries.project cs.now x) is
         (sym (length-map cs.now (kind_at (kinds_of columns x)))) (ap (projected cs.now) a.holds ∙ answer-project (view_tables task.view.now) bound cs.now x) m;
   }
 
-module _ {task : Task} {bound bound' : Bound} {i j k : ℕ} {old mid last new : Memo} {left right : Block} {r : Option Block} (low : i < 15) (lies : Lies bound j old mid (Some left)) (one : Answers task bound j old mid (Some left))
-    (lies' : Lies bound' k mid last (Some right)) (two : Answers task bound' k mid last (Some right)) (below : (j < i) × (k < i)) where
+module _ {task : Task} {bound bound' : Bound} {i j k : ℕ} {old mid last new : Memo} {left right : Block} {r : Option Block} (low : i < 15) (lies : Lies bound j old mid (Some left)) (one : Settles task bound j old mid (Some left))
+    (lies' : Lies bound' k mid last (Some right)) (two : Settles task bound' k mid last (Some right)) (below : (j < i) × (k < i)) where
   pub product-answers : bound' ≡ bound → Reads task i (Product j k)
-      → (left.width + right.width ≤ 8 → Notes bound i (left.width + right.width) (paired (rows_in last left) (rows_in last right)) last new r) → Answers task bound i old new r
+      → NotesProduct bound i left right last new r → Settles task bound i old new r
   product-answers same reads m = record {
-    over = λ columns q over h held.
+    each = λ columns q over held h.
         let is = reads columns (nodes q) over.planned h in
         let x = relation (nodes q) j in
         let y = relation (nodes q) k in
         let a = left-stands task over lies one below.0 h held lies' two below.1 in
         let b = right-stands task over lies one below.0 h held lies' two below.1 in
         let narrow = product_narrow columns x y (ap (proper columns) (sym is) ∙ relation-proper columns q i over.formed h) in
-        noting task over bound i low h old last new r (both-parts task over lies one below.0 h held lies' two below.1) (left.width + right.width) (paired (rows_in last left) (rows_in last right)) (queries.product x y) is
+        noting task over bound i low h old last new r (both-parts task over lies one below.0 h held lies' two below.1) (left.width + right.width) (λ rows. paired (rows left) (rows right)) (queries.product x y) is
         (ap₂ ◌+◌ a.wide b.wide ∙ sym (length-append (kinds_of columns x) (kinds_of columns y)))
         (ap₂ paired a.holds (b.holds ∙ ap (λ d. answer_of d (view_tables task.view.now) y) same) ∙ answer-product (view_tables task.view.now) bound x y)
         (m (omega (arith, a.wide, b.wide)));
   }
 
   pub union-answers : bound' ≡ bound → Reads task i (Union j k)
-      → (right.width ≡ left.width → Notes bound i left.width (united (rows_in last left) (rows_in last right)) last new r) → Answers task bound i old new r
+      → NotesUnion bound i left right last new r → Settles task bound i old new r
   union-answers same reads m = record {
-    over = λ columns q over h held.
+    each = λ columns q over held h.
         let is = reads columns (nodes q) over.planned h in
         let x = relation (nodes q) j in
         let y = relation (nodes q) k in
         let a = left-stands task over lies one below.0 h held lies' two below.1 in
         let b = right-stands task over lies one below.0 h held lies' two below.1 in
         let fitted = union-fitted columns x y (ap (proper columns) (sym is) ∙ relation-proper columns q i over.formed h) in
-        noting task over bound i low h old last new r (both-parts task over lies one below.0 h held lies' two below.1) left.width (united (rows_in last left) (rows_in last right)) (queries.union x y) is
-        a.wide (ap₂ united a.holds (b.holds ∙ ap (λ d. answer_of d (view_tables task.view.now) y) same) ∙ answer-union (view_tables task.view.now) bound x y)
+        noting task over bound i low h old last new r (both-parts task over lies one below.0 h held lies' two below.1) left.width (λ rows. merged (rows left) (rows right)) (queries.union x y) is
+        a.wide (ap₂ merged a.holds (b.holds ∙ ap (λ d. answer_of d (view_tables task.view.now) y) same) ∙ answer-union (view_tables task.view.now) bound x y)
         (m (b.wide ∙ fitted ∙ sym a.wide));
   }
 
   pub difference-answers : bound' ≡ other bound → Reads task i (Difference j k)
-      → Notes bound i left.width (subtracted bound (rows_in last left) (rows_in last right)) last new r → Answers task bound i old new r
+      → Notes bound i left.width (λ rows. subtracted bound (rows left) (rows right)) last new r → Settles task bound i old new r
   difference-answers turned reads m = record {
-    over = λ columns q over h held.
+    each = λ columns q over held h.
         let is = reads columns (nodes q) over.planned h in
         let x = relation (nodes q) j in
         let y = relation (nodes q) k in
         let a = left-stands task over lies one below.0 h held lies' two below.1 in
         let b = right-stands task over lies one below.0 h held lies' two below.1 in
-        noting task over bound i low h old last new r (both-parts task over lies one below.0 h held lies' two below.1) left.width (subtracted bound (rows_in last left) (rows_in last right)) (queries.difference x y) is
+        noting task over bound i low h old last new r (both-parts task over lies one below.0 h held lies' two below.1) left.width (λ rows. subtracted bound (rows left) (rows right)) (queries.difference x y) is
         a.wide (ap₂ (subtracted bound) a.holds (b.holds ∙ ap (λ d. answer_of d (view_tables task.view.now) y) turned) ∙ answer-difference (view_tables task.view.now) bound x y) m;
   }

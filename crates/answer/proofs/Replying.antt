@@ -14,7 +14,7 @@ use Rattle.semantics.specs.Views as semantics
 use Rattle.view.specs.declared.masked.Masked.{Masked}
 use Rattle.workspace.specs.Blocks.{block_rows}
 use Rattle.reply.specs.Writing.{Written}
-use Rattle.answer.specs.declared.found.Rows.{Rows}
+use Rattle.answer.specs.declared.task.split.Split.{Split}
 use Rattle.answer.specs.Answering.{RowsFound, Replies}
 
 module _ (tables : List (List (List semantics.Masked))) (work_length limit : ℕ) (q : Tree) (cells : List Masked) (old : List ℕ) (is : limit ≡ capacity work_length) where
@@ -23,7 +23,7 @@ module _ (tables : List (List (List semantics.Masked))) (work_length limit : ℕ
   overfull e found = rw (ap (λ n. overflow n tables q) (sym is) ∙ found.1) (sym found.2)
 
   -- no record has too many rows
-  module _ (rows : Rows) (found : RowsFound limit tables q cells (Ok rows)) where
+  module _ (rows : Split) (found : RowsFound limit tables q cells (Ok rows)) where
     bytes : reply_bytes (block_rows cells rows.certain) (block_rows cells rows.possible) ≡ reply_to tables q
     bytes = ap₂ reply_bytes found.1 found.2
 

@@ -1,6 +1,6 @@
 -- An answer that is found is noted, and what was found before stays.
-use Rattle.std.proofs.Common.{◌≡◌, ℕ, ◌*◌, ◌<◌, ◌≤◌, true, ◌⊎◌, List, [], length, get_or, set, Some, None, Option, sym, ap, ◌∙◌, subst, inl, inr, ⊎_elim, arith}
-use Rattle.std.proofs.lemmas.List.{get_or-set_same, get_or-set_other, length-set}
+use Rattle.std.proofs.Common.{◌≡◌, ℕ, ◌*◌, ◌<◌, true, ◌⊎◌, List, [], length, get_or, set, Some, None, Option, sym, ap, ◌∙◌, inl, inr, ⊎_elim, arith}
+use Rattle.std.proofs.lemmas.List.{get_or-set_same, get_or-set_other}
 use Rattle.std.proofs.lemmas.Bool.{cases_eq}
 use Rattle.semantics.specs.declared.kind.Column.{Column}
 use Rattle.semantics.specs.Queries.{Tree, nodes, kinds_of, well_formed}
@@ -10,18 +10,18 @@ use Rattle.view.specs.Views.{view_tables, width_in}
 use Rattle.workspace.specs.declared.block.Block.{Block}
 use Rattle.workspace.specs.Blocks.{block_rows}
 use Rattle.answer.specs.declared.bound.Bound.{Bound}
-use Rattle.answer.specs.Bounds.{answer_of, slot}
-use Rattle.answer.specs.Memos.{Sound, Held, Grown, Settled, TooLong}
-use Rattle.answer.specs.Places.{Makes}
+use Rattle.answer.specs.Bounds.{answer_of, region}
+use Rattle.answer.specs.Memos.{Sound, NotesHold, StaysNoted, Settled, TooLong}
+use Rattle.answer.specs.Regions.{Makes}
 use Rattle.query.specs.Operations.{relation}
-use Rattle.answer.proofs.Places.{block_apart}
+use Rattle.answer.proofs.Writes.{block_apart}
 use Rattle.answer.proofs.Relations.{high-longest}
-use Rattle.answer.proofs.Slots.{slot_same, slots_apart}
+use Rattle.answer.proofs.Regions.{region_same, regions_apart}
 
--- what stands in a slot after a note in slot `s`
+-- what is noted of a region after a note of region `s`
 module _ (memo : List (Option Block)) (s : ℕ) (b : Block) (low : s < length memo) where
-  noted : (k : ℕ) (x : Block) → get_or (set memo s (Some b)) k None ≡ Some x → ((k ≡ s) × (x ≡ b)) ⊎ ((k ≡ s → ⊥) × (get_or memo k None ≡ Some x))
-  noted k x e =
+  after-note : (k : ℕ) (x : Block) → get_or (set memo s (Some b)) k None ≡ Some x → ((k ≡ s) × (x ≡ b)) ⊎ ((k ≡ s → ⊥) × (get_or memo k None ≡ Some x))
+  after-note k x e =
       ⊎_elim
       (λ (same : k ≡ s).
       let here = get_or-set_same memo s (Some b) None low in
@@ -31,50 +31,37 @@ module _ (memo : List (Option Block)) (s : ℕ) (b : Block) (low : s < length me
       (λ (apart : k ≡ s → ⊥). inr (apart, sym (get_or-set_other memo s k (Some b) None apart) ∙ e))
       (cases_eq k s)
 
-  pub sound_more : (limit : ℕ) → Sound limit memo → b.first ≡ s * limit → b.count ≤ limit → Sound limit (set memo s (Some b))
-  sound_more limit sound begins few = record {
-    thirty = length-set memo s (Some b) ∙ sound.thirty;
-    begins = λ k x e. ⊎_elim
-        (λ (h : (k ≡ s) × (x ≡ b)). ap (λ (y : Block). y.first) h.1 ∙ begins ∙ ap (λ n. n * limit) (sym h.0))
-        (λ (h : (k ≡ s → ⊥) × (get_or memo k None ≡ Some x)). sound.begins k x h.1)
-        (noted k x e);
-    few = λ k x e. ⊎_elim
-        (λ (h : (k ≡ s) × (x ≡ b)). subst (λ (y : Block). y.count ≤ limit) (sym h.1) few)
-        (λ (h : (k ≡ s → ⊥) × (get_or memo k None ≡ Some x)). sound.few k x h.1)
-        (noted k x e);
-  }
-
-  pub grown-more : Grown memo (set memo s (Some b))
+  pub grown-more : StaysNoted memo (set memo s (Some b))
   grown-more k there =
       ⊎_elim
       (λ (same : k ≡ s). (b, ap (λ n. get_or (set memo s (Some b)) n None) same ∙ get_or-set_same memo s (Some b) None low))
       (λ (apart : k ≡ s → ⊥). (there.0, get_or-set_other memo s k (Some b) None apart ∙ there.1))
       (cases_eq k s)
 
-module _ (limit : ℕ) (columns : List (List Column)) (v : View) (q : Tree) (bound : Bound) (i : ℕ) (old new : List Masked) (memo : List (Option Block)) (sound : Sound limit memo) (low : slot bound i < length memo) where
+module _ (limit : ℕ) (columns : List (List Column)) (v : View) (q : Tree) (bound : Bound) (i : ℕ) (old new : List Masked) (memo : List (Option Block)) (sound : Sound limit memo) (low : region bound i < length memo) where
   -- noting it
-  pub settle : (b : Block) → Held columns v q old memo
-      → Makes limit (slot bound i * limit) (length (kinds_of columns (relation (nodes q) i))) (answer_of bound (view_tables v) (relation (nodes q) i)) old new (Some b)
-      → Settled columns v q bound i new memo (set memo (slot bound i) (Some b)) b
+  pub settle : (b : Block) → NotesHold columns v q old memo
+      → Makes limit (region bound i * limit) (length (kinds_of columns (relation (nodes q) i))) (answer_of bound (view_tables v) (relation (nodes q) i)) old new (Some b)
+      → Settled columns v q bound i new memo (set memo (region bound i) (Some b)) b
   settle b held m = record {
     held = record {
       wide = λ c j x l e. ⊎_elim
-          (λ (h : (slot c j ≡ slot bound i) × (x ≡ b)).
-          let p = slot_same c bound j i h.0 in
+          (λ (h : (region c j ≡ region bound i) × (x ≡ b)).
+          let p = region_same c bound j i h.0 in
           ap (λ (y : Block). y.width) h.1 ∙ m.0.wide ∙ ap (λ n. length (kinds_of columns (relation (nodes q) n))) (sym p.1))
-          (λ (h : (slot c j ≡ slot bound i → ⊥) × (get_or memo (slot c j) None ≡ Some x)). held.wide c j x l h.1)
-          (noted memo (slot bound i) b low (slot c j) x e);
+          (λ (h : (region c j ≡ region bound i → ⊥) × (get_or memo (region c j) None ≡ Some x)). held.wide c j x l h.1)
+          (after-note memo (region bound i) b low (region c j) x e);
       holds = λ c j x l e. ⊎_elim
-          (λ (h : (slot c j ≡ slot bound i) × (x ≡ b)).
-          let p = slot_same c bound j i h.0 in
+          (λ (h : (region c j ≡ region bound i) × (x ≡ b)).
+          let p = region_same c bound j i h.0 in
           ap (block_rows new) h.1 ∙ m.1 ∙ ap (λ d. answer_of d (view_tables v) (relation (nodes q) i)) (sym p.0) ∙ ap (λ n. answer_of c (view_tables v) (relation (nodes q) n)) (sym p.1))
-          (λ (h : (slot c j ≡ slot bound i → ⊥) × (get_or memo (slot c j) None ≡ Some x)).
-          block_apart (slot bound i * limit) limit old new x m.0.untouched (slots_apart limit (slot c j) (slot bound i) x h.0 (sound.begins (slot c j) x h.1) (sound.few (slot c j) x h.1))
+          (λ (h : (region c j ≡ region bound i → ⊥) × (get_or memo (region c j) None ≡ Some x)).
+          block_apart (region bound i * limit) limit old new x m.0.untouched (regions_apart limit (region c j) (region bound i) x h.0 (sound.begins (region c j) x h.1) (sound.few (region c j) x h.1))
           ∙ held.holds c j x l h.1)
-          (noted memo (slot bound i) b low (slot c j) x e);
+          (after-note memo (region bound i) b low (region c j) x e);
     };
-    grown = grown-more memo (slot bound i) b low;
-    here = get_or-set_same memo (slot bound i) (Some b) None low;
+    grown = grown-more memo (region bound i) b low;
+    here = get_or-set_same memo (region bound i) (Some b) None low;
   }
 
 -- an answer that is too long

@@ -10,7 +10,7 @@ use Rattle.workspace.specs.declared.block.Block.{Block}
 use Rattle.workspace.specs.Blocks.{block_rows}
 use Rattle.workspace.proofs.Reading.{length_rows}
 use Rattle.answer.specs.declared.bound.Bound.{Bound}
-use Rattle.answer.specs.Bounds.{answer_of, slot}
+use Rattle.answer.specs.Bounds.{answer_of, region}
 use Rattle.answer.specs.Memos.{Sound, Settled}
 
 -- the block holds an answer
@@ -32,10 +32,10 @@ pub still_stands : {columns : List (List Column)} {v : View} {q : Tree} {bound b
     → i < length (nodes q) → limit' ≡ limit → Sound limit new → Sound limit' last → Settled columns v q bound i cells old new b → Settled columns v q bound' j cells' new last c
     → Stands columns v bound (relation (nodes q) i) cells' b
 still_stands {columns} {v} {q} {bound} {bound'} {i} {j} {limit} {limit'} {cells} {cells'} {old} {new} {last} {b} {c} h l sound sound' one two =
-    let here = two.grown (slot bound i) (b, one.here) in
+    let here = two.grown (region bound i) (b, one.here) in
     let a = stands h one in
     let wide = two.held.wide bound i here.0 h here.1 in
     let holds = two.held.holds bound i here.0 h here.1 in
-    let e : b.first ≡ here.0.first = sound.begins (slot bound i) b one.here ∙ ap (λ n. slot bound i * n) (sym l) ∙ sym (sound'.begins (slot bound i) here.0 here.1) in
+    let e : b.first ≡ here.0.first = sound.begins (region bound i) b one.here ∙ ap (λ n. region bound i * n) (sym l) ∙ sym (sound'.begins (region bound i) here.0 here.1) in
     let f : b.count ≡ here.0.count = sym (length_rows cells b) ∙ ap length (a.holds ∙ sym holds) ∙ length_rows cells' here.0 in
     record { wide = a.wide; holds = block_same cells' b here.0 e f (a.wide ∙ sym wide) ∙ holds }

@@ -30,10 +30,10 @@ abbrev pub takes_out : Bound → List Masked → List Masked → Bool
 takes_out Low = compatible
 takes_out High = same_row
 
--- The place of a record's answer among the 30 of a workspace.
-abbrev pub slot : Bound → ℕ → ℕ
-slot Low i = 2 * i
-slot High i = 2 * i + 1
+-- The number of the region, among the 30 of a workspace, that has a record's answer.
+abbrev pub region : Bound → ℕ → ℕ
+region Low i = 2 * i
+region High i = 2 * i + 1
 
 -- The rows that a select keeps.
 abbrev pub selected : Bound → Condition → List (List Masked) → List (List Masked)
@@ -43,8 +43,8 @@ selected bound c rows = filter (λ x. keeps bound (truth c x)) rows
 abbrev pub projected : List ℕ → List (List Masked) → List (List Masked)
 projected cs rows = without_repeats (map (picked cs) rows)
 
-abbrev pub united : List (List Masked) → List (List Masked) → List (List Masked)
-united lefts rights = without_repeats (lefts ++ rights)
+abbrev pub merged : List (List Masked) → List (List Masked) → List (List Masked)
+merged lefts rights = without_repeats (lefts ++ rights)
 
 -- The left rows that no right row takes out.
 abbrev pub subtracted : Bound → List (List Masked) → List (List Masked) → List (List Masked)

@@ -1,8 +1,8 @@
 pub mod Bounds
 pub mod Rows
-pub mod Places
+pub mod Regions
 pub mod Selecting
-pub mod Slots
+pub mod Outputs
 pub mod Memos
 pub mod Answering
 pub mod Notes

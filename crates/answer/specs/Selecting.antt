@@ -9,6 +9,10 @@ use Rattle.semantics.specs.Views.{Masked}
 use Rattle.answer.specs.declared.bound.Bound.{Bound}
 use Rattle.answer.specs.Bounds.{keeps}
 
+-- This holds of the condition that the bytes are, where they are one.
+abbrev pub ForCondition : List ℕ → (Condition → Type 0) → Type 0
+ForCondition bytes p = (e : Refusal) (c : Condition) → condition_form e bytes ≡ done c → p c
+
 -- Where the bytes are a condition, this says whether a select with it keeps the row.
 pub record Selects (bound : Bound) (bytes : List ℕ) (row : List Masked) (kept : Bool) : Type 0 where
   pub is : (e : Refusal) (c : Condition) → condition_form e bytes ≡ done c → kept ≡ keeps bound (truth c row)

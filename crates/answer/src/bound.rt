@@ -1,8 +1,17 @@
-ghost use Rattle.std.specs.Prelude.{◌≡◌, ◌<◌};
-ghost use Rattle.answer.specs.Bounds.{keeps, other, slot};
+ghost use Rattle.std.specs.Prelude.{◌≡◌, ◌<◌, map};
+ghost use Rattle.semantics.specs.Lists.{some};
+ghost use Rattle.view.specs.Views.{masked_of};
+ghost use Rattle.workspace.specs.Rows.{rows_left};
 ghost use Rattle.compare.specs.Truths.{truth_of};
+ghost use Rattle.answer.specs.Bounds.{keeps, other, region, takes_out};
+ghost use Rattle.answer.specs.Rows.{carried};
+ghost use Rattle.answer.specs.Selecting.{Selects};
 
-use compare::Truth;
+use crate::row::Row;
+use compare::{Truth, truth};
+use rows::compatible;
+use view::Masked;
+use workspace::Rows;
 
 /// Which of the two answers of a query is meant.
 #[derive(Clone, Copy, PartialEq, Eq, Debug)]
@@ -12,16 +21,6 @@ pub(crate) enum Bound {
 }
 
 impl Bound {
-    /// Whether a select keeps a row for which its condition has this truth.
-    pub(crate) fn keeps(self, truth: Truth) -> bool
-        ensures { result ≡ keeps self (truth_of truth) }
-    {
-        match self {
-            Bound::Low => truth.is_true(),
-            Bound::High => truth.may_be_true(),
-        }
-    }
-
     /// The other one.
     pub(crate) fn other(self) -> Bound
         ensures { result ≡ other self }
@@ -32,16 +31,50 @@ impl Bound {
         }
     }
 
-    /// The place of a record's answer among the 30 of a workspace.
-    pub(crate) fn slot(self, number: usize) -> usize
+    /// The number of the region, among the 30 of a workspace, that has a record's answer.
+    pub(crate) fn region(self, number: usize) -> usize
         requires { number < 15 }
-        ensures { result ≡ slot self number }
+        ensures { result ≡ region self number }
     {
-        // a number and no type, and beside the bound: a difference asks for its right part by the other bound and another
-        // number, so a pair would be taken apart and made again at each call
         match self {
             Bound::Low => 2 * number,
             Bound::High => 2 * number + 1,
         }
+    }
+
+    /// Whether a select keeps a row for which its condition has this truth.
+    fn keeps(self, truth: Truth) -> bool
+        ensures { result ≡ keeps self (truth_of truth) }
+    {
+        match self {
+            Bound::Low => truth.is_true(),
+            Bound::High => truth.may_be_true(),
+        }
+    }
+
+    /// Whether a select with this condition keeps a row.
+    pub(crate) fn selects(self, condition: &[u8], row: &Row) -> bool
+        ensures { Selects self condition.now (carried row.now) result }
+    {
+        self.keeps(truth(condition, row.cells()))
+    }
+
+    /// Whether a right row takes a left row out of a difference: in the low answer if it may be the
+    /// same row, in the high answer if it is.
+    #[tactic(auto, using(view::proofs::Same::equal_rows))]
+    fn takes_out(self, row: &Row, other: &[Masked]) -> bool
+        ensures { result ≡ takes_out self (carried row.now) (map masked_of other.now) }
+    {
+        match self {
+            Bound::Low => compatible(row.cells(), other),
+            Bound::High => row.cells() == other,
+        }
+    }
+
+    /// Whether one of some right rows takes a left row out.
+    pub(crate) fn some_takes_out(self, mut rows: Rows, row: &Row) -> bool
+        ensures { result ≡ some (takes_out self (carried row.now)) (rows_left rows.entry) }
+    {
+        rows.any(|other| self.takes_out(row, other))
     }
 }

@@ -3,25 +3,11 @@
 #![tactic(auto)]
 
 mod bound;
-mod difference;
-mod fetch;
-mod found;
-mod gather;
-mod keep;
-mod low;
-mod meet;
 mod memo;
-mod note;
-mod overfull;
-mod product;
-mod project;
-mod push;
+mod output;
+mod refusal;
 mod respond;
 mod row;
-mod select;
-mod slot;
-mod table;
 mod task;
-mod union;
 
 pub use respond::answer;

@@ -8,5 +8,5 @@ use Rattle.answer.proofs.bound.Bound.some_takes_out.Goals as goal
 
 pub returns : goal.returns
 returns c =
-    any_from_yields_List (takes_out c.args.self (answer.row_of c.args.row.now)) c.any.new.self _ _ c.any.ensures.ran (YieldsList-from_first lent_row rows_left _ refl)
+    any_from_yields_List (takes_out c.args.self (answer.carried c.args.row.now)) c.any.new.self _ _ c.any.ensures.ran (YieldsList-from_first lent_row rows_left _ refl)
     (λ x b q call. search rules)

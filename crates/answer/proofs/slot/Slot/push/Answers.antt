@@ -1,8 +1,0 @@
-use Rattle.std.proofs.Common.{refl}
-use Rattle.answer.proofs.Places.{pushed}
-use Rattle.answer.proofs.slot.Slot.push.Goals as goal
-
-pub returns-clause-pushed : goal.returns-clause-pushed
-returns-clause-pushed c =
-    pushed c.args.self.now.limit c.args.self.now.rows _ c.args.self.now.work.now c.copy_from_slice.new.self c.args.row.now
-    c.args.self.now.room c.requires.few c.requires.wide c.copy_from_slice.ensures.after refl refl refl
