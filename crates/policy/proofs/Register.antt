@@ -1,8 +1,10 @@
 -- The entries of a register: finding one, and setting one.
-use Rattle.std.proofs.Common.{◌≡◌, ℕ, suc, ◌+◌, ◌<◌, ◌≤◌, ◌⊎◌, Bool, true, false, cond, not, ◌&&◌, ◌||◌, eqb, ltb, List, [], ◌∷◌, ◌++◌, length, get_or, set, Some, None, Option, Ok, Err, Result, sym, refl, ap, ◌∙◌, inl, inr, ⊎_elim, arith}
-use Rattle.std.specs.List.{find, position, position_from}
-use Rattle.std.proofs.lemmas.Iterator.Adapters.{position_from-zero}
-use Rattle.std.proofs.lemmas.Bool.{lt-ltb, le-ltb, ne_eqb, eqb-true, eqb-false, and_parts, and_from, cases_Bool, cond-true, cond-false, cond_both}
+use Rattle.std.proofs.Common.{◌≡◌, ℕ, zero, suc, ◌<◌, ◌≤◌, ◌⊎◌, Bool, true, false, cond, not, ◌&&◌, ◌||◌, eqb, ltb, List, [], ◌∷◌, ◌++◌, length, get_or, set, Some, None, Option, Ok, Err, Result, sym, refl, ap, ◌∙◌, inl, inr, ⊎_elim, arith}
+use Rattle.std.specs.List.{find, position, position_or_len}
+use Rattle.std.proofs.lemmas.List.Folds.{find_at}
+use Rattle.std.proofs.lemmas.List.Quantifiers.{position-Some}
+use Rattle.std.proofs.lemmas.Option.{none-some, slice_get_past}
+use Rattle.std.proofs.lemmas.Bool.{cases_lt, lt-ltb, le-ltb, ne_eqb, eqb-true, eqb-false, and_parts, and_from, cases_Bool, cond-true, cond-false, cond_both}
 use Rattle.std.proofs.lemmas.Bool.Decides.{nat_tests}
 use Rattle.semantics.specs.declared.mark.Mark.{Mark}
 use Rattle.semantics.specs.declared.mark.Mark.TheVariants.{Shown}
@@ -12,74 +14,43 @@ use Rattle.semantics.specs.declared.rule.Consent.{Consent}
 use Rattle.semantics.specs.Outcomes.{done, refuse, question, Steps}
 use Rattle.semantics.specs.Policies.{number_at, is_number, consent_of, consent_mark, key_mark, consents_mean, replaced, is_known, keys_apart, consented, consented_mean, SameMeaning, Means}
 
--- the position of the entry of a key, counted from `n`
-abbrev position_after : ℕ → List Consent → ℕ → Option ℕ
-position_after n es key = position_from (λ e. eqb e.key key) n es
+-- whether an entry has this key
+abbrev has_key : ℕ → Consent → Bool
+has_key key e = eqb e.key key
 
 abbrev pub position_of : List Consent → ℕ → Option ℕ
-position_of es key = position (λ e. eqb e.key key) es
-
-position_is : (es : List Consent) (key : ℕ) → position_of es key ≡ position_after 0 es key
-position_is es key = position_from-zero (λ e. eqb e.key key) es
+position_of es key = position (has_key key) es
 
 -- `find` by a key
-pub found_is : (es : List Consent) (key : ℕ) → find (λ e. eqb e.key key) es ≡ consent_of es key
+pub found_is : (es : List Consent) (key : ℕ) → find (has_key key) es ≡ consent_of es key
 found_is [] key = refl
 found_is (e ∷ es) key = ap (λ o. cond (eqb e.key key) (Some e) o) (found_is es key)
 
--- what is known of the position of a key's entry
-pub record FoundAt (es : List Consent) (key k : ℕ) : Type 0 where
-  pub within : k < length es
-  pub entry : (d : Consent) → consent_of es key ≡ Some (get_or es k d)
-  pub put : (e : Consent) → e.key ≡ key → replaced es e ≡ set es k e
+-- the first entry with the key of `e` is the key's, and it is the one that `e` replaces
+first_is : (es : List Consent) (e : Consent) (i : ℕ) → i < length es → has_key e.key (get_or es i e) ≡ true → ((k : ℕ) → k < i → has_key e.key (get_or es k e) ≡ false) → (consent_of es e.key ≡ Some (get_or es i e)) × (replaced es e ≡ set es i e)
+first_is [] e i within t before = absurd (omega arith)
+first_is (x ∷ xs) e zero within t before = (rw t, cond-true _ (e ∷ xs) (x ∷ replaced xs e) t)
+first_is (x ∷ xs) e (suc i) within t before =
+    let f : eqb x.key e.key ≡ false = before 0 (omega arith) in
+    let rest = first_is xs e i (omega arith) t (λ k l. before (suc k) (omega arith)) in
+    (rw f rest.0, cond-false _ (e ∷ xs) (x ∷ replaced xs e) f ∙ ap (λ l. x ∷ l) rest.1)
 
-at_first_lem : (x : Consent) (xs : List Consent) (key : ℕ) → eqb x.key key ≡ true → FoundAt (x ∷ xs) key 0
-at_first_lem x xs key t = record {
-  within = omega arith;
-  entry = λ d. rw t;
-  put = λ e h. cond-true _ (e ∷ xs) (x ∷ replaced xs e) (ap (eqb x.key) h ∙ t);
-}
+pub found_at : (es : List Consent) (e : Consent) (i : ℕ) → Some i ≡ position_of es e.key → (i < length es) × (consent_of es e.key ≡ Some (get_or es i e)) × (replaced es e ≡ set es i e)
+found_at es e i at =
+    let first = position-Some (has_key e.key) es i e (sym at) in
+    let is = first_is es e i first.0 first.1 first.2 in
+    (first.0, is.0, is.1)
 
-at-later : (x : Consent) (xs : List Consent) (key k : ℕ) → eqb x.key key ≡ false → FoundAt xs key k → FoundAt (x ∷ xs) key (suc k)
-at-later x xs key k f rest = record {
-  within = let h = rest.within in omega arith;
-  entry = λ d. rw f (rest.entry d);
-  put = λ e h. cond-false _ (e ∷ xs) (x ∷ replaced xs e) (ap (eqb x.key) h ∙ f) ∙ ap (λ l. x ∷ l) (rest.put e h);
-}
-
-found_from : (n : ℕ) (es : List Consent) (key i : ℕ) → position_after n es key ≡ Some i → (k : ℕ) × (i ≡ n + k) × FoundAt es key k
-found_from n [] key i e = let z : ◌≡◌ {A = ℕ} 0 1 = cc in absurd (omega arith)
-found_from n (x ∷ xs) key i e =
-    ⊎_elim
-    (λ (t : eqb x.key key ≡ true).
-    let q : Some n ≡ Some i = sym (cond-true _ (Some n) (position_after (n + 1) xs key) t) ∙ e in
-    let r : n ≡ i = cc in
-    (0, omega arith, at_first_lem x xs key t))
-    (λ (f : eqb x.key key ≡ false).
-    let rest = found_from (n + 1) xs key i (sym (cond-false _ (Some n) (position_after (n + 1) xs key) f) ∙ e) in
-    let r = rest.1 in
-    (suc rest.0, omega arith, at-later x xs key rest.0 f rest.2))
-    (cases_Bool (eqb x.key key))
-
-pub found_at : (es : List Consent) (key i : ℕ) → Some i ≡ position_of es key → FoundAt es key i
-found_at es key i e =
-    let f = found_from 0 es key i (sym (e ∙ position_is es key)) in
-    let r = f.1 in
-    let same : i ≡ f.0 = omega arith in
-    rw same f.2
-
-none_from : (n : ℕ) (es : List Consent) (key : ℕ) → position_after n es key ≡ None → consent_of es key ≡ None
-none_from n [] key e = refl
-none_from n (x ∷ xs) key e =
-    ⊎_elim
-    (λ (t : eqb x.key key ≡ true).
-    let q : Some n ≡ None = sym (cond-true _ (Some n) (position_after (n + 1) xs key) t) ∙ e in
-    let z : ◌≡◌ {A = ℕ} 0 1 = cc in absurd (omega arith))
-    (λ (f : eqb x.key key ≡ false). rw f (none_from (n + 1) xs key (sym (cond-false _ (Some n) (position_after (n + 1) xs key) f) ∙ e)))
-    (cases_Bool (eqb x.key key))
-
+-- a key without a position has no entry
 pub not_found : (es : List Consent) (key : ℕ) → None ≡ position_of es key → consent_of es key ≡ None
-not_found es key e = none_from 0 es key (sym (e ∙ position_is es key))
+not_found es key at =
+    let n = position_or_len (has_key key) es in
+    sym (found_is es key)
+    ∙ find_at (has_key key) es
+    ∙ ⊎_elim
+    (λ (l : n < length es). absurd (none-some n (at ∙ cond-true _ (Some n) None (lt-ltb n (length es) l))))
+    (λ (l : length es ≤ n). slice_get_past es n l)
+    (cases_lt n (length es))
 
 -- tests of keys, one inside another
 module _ {X : Type 0} (a b k : ℕ) (x y z : X) where
@@ -220,10 +191,8 @@ module _ (es new : List Consent) (e : Consent) where
 -- the entry of a known key is written over
 pub set_known : (es new : List Consent) (e : Consent) (i : ℕ) → Some i ≡ position_of es e.key → (i < length es → new ≡ set es i e) → consented es e ≡ done new
 set_known es new e i at there =
-    let found = found_at es e.key i at in
-    let known = found.entry e in
-    let put = found.put e refl in
-    rw (known, put, there found.within) refl
+    let found = found_at es e i at in
+    rw (found.1, found.2, there found.0) refl
 
 -- an entry of a new key is pushed, where there is room
 module _ (es : List Consent) (e : Consent) (at : None ≡ position_of es e.key) where
