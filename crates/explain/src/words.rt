@@ -1,6 +1,7 @@
 //! Records and conditions in words.
 
-use query::{Operation, Term, Terms};
+use query::Operation;
+use records::{Term, Terms};
 use semantics::{Kind, Operator};
 use std::alloc::{AllocError, Global};
 use std::{fmt, str};
