@@ -33,7 +33,7 @@ put_on columns n m stack = and_then (grown (StackShort n) m stack) (λ (next : G
 last-at : {X : Type 0} (xs : List X) (y d : X) → get_or (xs ++ y ∷ []) (length (xs ++ y ∷ []) - 1) d ≡ y
 last-at xs y d = get_or_push xs y d (length (xs ++ y ∷ []) - 1) (omega (arith, length_push xs y))
 
-nodes-last : (q d : Tree) → get_or (nodes q) (length (nodes q) - 1) d ≡ q
+pub nodes-last : (q d : Tree) → get_or (nodes q) (length (nodes q) - 1) d ≡ q
 nodes-last q d = let n = nodes_end q in ap (λ l. get_or l (length l - 1) d) n.1 ∙ last-at n.0 q d
 
 pub nodes-some : (q : Tree) → 1 ≤ length (nodes q)

@@ -1,20 +1,24 @@
 -- What a plan stands for: the relations of a query by record number.
-use Rattle.std.specs.Prelude.{◌≡◌, ℕ, ◌+◌, ◌-◌, ◌<◌, ◌≤◌, Bool, true, false, List, [], ◌∷◌, ◌++◌, map, length, drop, Some, None, Ok, Err, Result, slice_get, MatchResult}
+use Rattle.std.specs.Prelude.{◌≡◌, ℕ, ◌+◌, ◌-◌, ◌<◌, ◌≤◌, Bool, true, false, List, [], ◌∷◌, ◌++◌, map, length, drop, Some, None, Ok, Err, Option, Result, slice_get, MatchResult}
 use Rattle.semantics.specs.declared.kind.Column.{Column}
 use Rattle.semantics.specs.declared.refusal.Refusal.{Refusal}
-use Rattle.semantics.specs.declared.refusal.Refusal.TheVariants.{StackShort}
+use Rattle.semantics.specs.declared.refusal.Refusal.TheVariants.{WrongForm, StackShort}
+use Rattle.semantics.specs.Conditions.{Condition}
 use Rattle.semantics.specs.Outcomes.{Outcome, done, refuse}
 use Rattle.semantics.specs.Queries.{Tree, nodes, parts_of, kinds_of}
-use Rattle.semantics.specs.Reading.{next_said, asked}
-use Rattle.semantics.specs.Records.{Record, record_of}
+use Rattle.semantics.specs.Reading.{condition_form, next_said, asked}
+use Rattle.semantics.specs.Records.{Record, record_of, select_record}
+use Rattle.records.specs.declared.record.Record as code
+use Rattle.records.specs.Saying.{Says}
 use Rattle.bounded.specs.Bounded.{items}
 use Rattle.query.specs.declared.kinds.Kinds.{Kinds}
+use Rattle.query.specs.declared.operation.Operation.{Operation}
 use Rattle.query.specs.declared.plan.Planned.{Planned}
 use Rattle.query.specs.declared.plan.Plan.{Plan}
 use Rattle.query.specs.declared.step.Step.{Step}
 use Rattle.query.specs.declared.step.Sides.{Sides}
 use Rattle.query.specs.Kinds.{kinds_in}
-use Rattle.query.specs.Operations.{relation}
+use Rattle.query.specs.Operations.{relation, OperationIs}
 
 -- The parts of relation number `i`: the left or only one has the number `left`, the right one stands just before.
 abbrev pub PartsAt : List Tree → ℕ → ℕ → List Tree → Type 0
@@ -71,9 +75,28 @@ OnStack columns plan P = (bytes : List ℕ) (stack : List Tree) → Plans column
 abbrev pub Grows : List (List Column) → Plan → Record → Result Step Refusal → Type 0
 Grows columns plan says r = OnStack columns plan (λ stack. StepIs columns stack says r (asked columns (record_count plan) says stack))
 
+-- The code answers what a select with this body adds to the plan, or why it is refused.
+abbrev pub Selects : List (List Column) → Plan → List ℕ → Result Step Refusal → Type 0
+Selects columns plan body r =
+    (c : Condition) → condition_form (WrongForm (record_count plan)) body ≡ done c → Grows columns plan (select_record c) r
+
+-- The code answers what its record adds to the plan, or why it is refused.
+abbrev pub GrowsBy : List (List Column) → Plan → code.Record → Result Step Refusal → Type 0
+GrowsBy columns plan said r = (says : Record) → Says (record_count plan) said says → Grows columns plan says r
+
+-- A plan that has the relations of a stack has those of the stack after this step, of a record that begins at byte `at`.
+abbrev pub Pushes : Plan → ℕ → Step → Plan → Type 0
+Pushes old at step new =
+    (columns : List (List Column)) (bytes : List ℕ) (stack : List Tree) (says : Record) (rest : List ℕ) (o : Outcome (List Tree)) →
+    Plans columns bytes old (laid stack) → (grew : Grew columns stack step says o) →
+    next_said (record_count old) (drop at bytes) ≡ done (record { says = says; rest = rest }) →
+    Plans columns bytes new (laid (grew.top ∷ grew.below))
+
 -- What the last record has added, or that the stack is too short.
 abbrev pub PartIs : Plan → Result Planned Refusal → Type 0
-PartIs plan r = MatchResult r (λ p. Some p ≡ slice_get (planned_in plan) (record_count plan - 1)) (λ e. (None ≡ slice_get (planned_in plan) (record_count plan - 1)) × (e ≡ StackShort (record_count plan)))
+PartIs plan r =
+    let last = slice_get (planned_in plan) (record_count plan - 1) in
+    MatchResult r (λ p. Some p ≡ last) (λ e. (None ≡ last) × (e ≡ StackShort (record_count plan)))
 
 -- The two relations on top of the stack, or that it is too short.
 pub record SidesOf (columns : List (List Column)) (below : List Tree) (left right : Tree) (s : Sides) : Type 0 where
@@ -87,6 +110,9 @@ SidesAre columns n [] r = MatchResult r (λ s. ⊥) (λ e. e ≡ StackShort n)
 SidesAre columns n (x ∷ []) r = MatchResult r (λ s. ⊥) (λ e. e ≡ StackShort n)
 SidesAre columns n (x ∷ (y ∷ below)) r = MatchResult r (λ s. SidesOf columns below y x s) (λ e. ⊥)
 
+abbrev pub SidesIn : List (List Column) → Plan → Result Sides Refusal → Type 0
+SidesIn columns plan r = OnStack columns plan (λ stack. SidesAre columns (record_count plan) stack r)
+
 -- Is exactly one relation on the stack?
 abbrev pub lone : List Tree → Bool
 lone [] = false
@@ -97,6 +123,10 @@ lone (x ∷ (y ∷ below)) = false
 abbrev pub Checks : List (List Column) → List ℕ → Result Plan Refusal → Outcome Tree → Type 0
 Checks columns bytes (Ok plan) o = (q : Tree) × (o ≡ done q) × Plans columns bytes plan (nodes q)
 Checks columns bytes (Err e) o = o ≡ refuse e
+
+-- The code has found what relation number `i` of the plan says in its bytes.
+abbrev pub OperationIn : Plan → List ℕ → ℕ → Option Operation → Type 0
+OperationIn plan bytes i r = (columns : List (List Column)) (qs : List Tree) → Plans columns bytes plan qs → i < length qs → OperationIs qs i r
 
 -- The kinds of the columns of its relations.
 abbrev pub known_kinds : Plan → List Kinds

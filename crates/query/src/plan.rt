@@ -1,11 +1,7 @@
-ghost use Rattle.std.specs.Prelude.{◌≡◌, ℕ, ◌+◌, ◌-◌, ◌<◌, ◌≤◌, ◌↔◌, IsTrue, List, [], ◌∷◌, length, drop, slice_get, SomeIff, IfSome};
+ghost use Rattle.std.specs.Prelude.{◌≡◌, ◌+◌, ◌-◌, ◌<◌, ◌≤◌, ◌↔◌, IsTrue, List, [], None, slice_get, SomeIff, IfSome};
 ghost use Rattle.semantics.specs.declared.kind.Column.{Column};
-ghost use Rattle.semantics.specs.Outcomes.{Outcome, done};
-ghost use Rattle.semantics.specs.Queries.{Tree};
-ghost use Rattle.semantics.specs.Reading.{next_said};
-ghost use Rattle.semantics.specs.Records as meant;
-ghost use Rattle.query.specs.Operations.{MayBeLower, OperationIs};
-ghost use Rattle.query.specs.Plans.{planned_in, record_count, known_kinds, Plans, laid, Grew, OnStack, PartIs, lone};
+ghost use Rattle.query.specs.Operations.{MayBeLower};
+ghost use Rattle.query.specs.Plans.{planned_in, record_count, known_kinds, OnStack, Pushes, OperationIn, PartIs, lone};
 
 mod grow;
 
@@ -57,7 +53,7 @@ impl Plan {
     pub(crate) fn push(&mut self, at: usize, step: Step)
         requires { record_count self.old < 15 }
         ensures count { record_count self.new ≡ record_count self.old + 1 }
-        ensures plans { (columns : List (List Column)) (bytes : List ℕ) (stack : List Tree) (says : meant.Record) (rest : List ℕ) (o : Outcome (List Tree)) → Plans columns bytes self.old (laid stack) → (grew : Grew columns stack step says o) → next_said (record_count self.old) (drop at bytes) ≡ done (record { says = says; rest = rest }) → Plans columns bytes self.new (laid (grew.top ∷ grew.below)) }
+        ensures plans { Pushes self.old at step self.new }
     {
         self.records.push(Planned { at, step }).unwrap();
     }
@@ -80,7 +76,7 @@ impl Plan {
     pub(crate) fn place(&self) -> u8
         ensures { result ≡ record_count self.now }
     {
-        place_of(self.records.len())
+        place_of(self.count())
     }
 
     /// What the last record has added: the part of a record that takes one.
@@ -125,7 +121,8 @@ impl Plan {
     /// parts, which are lower.
     pub fn operation<'q>(&self, query: &'q [u8], number: usize) -> Option<Operation<'q>>
         ensures lower { MayBeLower number result }
-        ensures reads { (columns : List (List Column)) (qs : List Tree) → Plans columns query.now self.now qs → number < length qs → OperationIs qs number result }
+        ensures reads { OperationIn self.now query.now number result }
+        ensures past { record_count self.now ≤ number → result ≡ None }
     {
         let planned = self.planned(number)?;
         let rest = query.get(planned.at..)?;

@@ -6,7 +6,7 @@ use Rattle.semantics.specs.declared.refusal.Refusal.TheVariants.{WrongForm}
 use Rattle.semantics.specs.Conditions as conditions
 use Rattle.semantics.specs.Conditions.{Condition}
 use Rattle.semantics.specs.Outcomes.{Outcome, refused, done, refuse}
-use Rattle.semantics.specs.Reading.{next_term}
+use Rattle.semantics.specs.Reading.{combined, next_term}
 use Rattle.semantics.specs.Walks.{Next}
 use Rattle.records.specs.declared.term.Term.{Term}
 use Rattle.records.specs.declared.term.Term.TheVariants.{ByColumn, ByNumber, ByPrefix, And, Or, Not}
@@ -67,3 +67,7 @@ parts conditions.negating = 1
 abbrev pub DepthIs : Refusal → Option ℕ → Outcome (List Condition) → Type 0
 DepthIs e (Some d) o = (next : List Condition) × (o ≡ done next) × (length next ≡ d)
 DepthIs e None o = o ≡ refuse e
+
+-- The code says so over every stack of `depth` conditions.
+abbrev pub DepthAfter : conditions.Term → ℕ → Option ℕ → Type 0
+DepthAfter t depth r = (e : Refusal) (stack : List Condition) → length stack ≡ depth → DepthIs e r (combined e t stack)

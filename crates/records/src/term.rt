@@ -1,8 +1,7 @@
-ghost use Rattle.std.specs.Prelude.{◌≡◌, ℕ, ◌<◌, List, length};
+ghost use Rattle.std.specs.Prelude.{◌≡◌, ◌<◌};
 ghost use Rattle.semantics.specs.declared.refusal.Refusal.{Refusal};
-ghost use Rattle.semantics.specs.Conditions.{Condition};
-ghost use Rattle.semantics.specs.Reading.{combined, next_term};
-ghost use Rattle.records.specs.Terms.{term_of, NextTermIs, parts, DepthIs};
+ghost use Rattle.semantics.specs.Reading.{next_term};
+ghost use Rattle.records.specs.Terms.{term_of, NextTermIs, parts, DepthAfter};
 
 use crate::first::first_record;
 use semantics::Operator;
@@ -46,7 +45,7 @@ impl Term<'_> {
     #[tactic(auto, using(crate::proofs::Depths::combines, crate::proofs::Depths::refuses))]
     pub(crate) fn depth_after(self, depth: usize) -> Option<usize>
         requires { depth < 1000 }
-        ensures { (e : Refusal) (stack : List Condition) → length stack ≡ depth → DepthIs e result (combined e (term_of self.entry) stack) }
+        ensures { DepthAfter (term_of self.entry) depth result }
     {
         Some(depth.checked_sub(self.parts())? + 1)
     }

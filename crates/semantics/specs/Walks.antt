@@ -31,7 +31,8 @@ single e (x ∷ (y ∷ ys)) = refuse e
 -- The walk from record number `n` on, while bytes remain and at most `more` records long: each is read by `form`, and
 -- a step takes its number, what it says, and the stack, and leaves the next stack.
 unfoldable pub walk :
-    {S X : Type 0} → Faults → (ℕ → ℕ → List ℕ → Outcome S) → (ℕ → S → List X → Outcome (List X)) → ℕ → ℕ → List X → List ℕ → Outcome X
+    {S X : Type 0} → Faults → (ℕ → ℕ → List ℕ → Outcome S) → (ℕ → S → List X → Outcome (List X)) →
+    ℕ → ℕ → List X → List ℕ → Outcome X
 walk faults form step more n stack [] = single (faults.not_one n) stack
 walk faults form step zero n stack (b ∷ bytes) = refuse (faults.too_many n)
 walk faults form step (suc more) n stack (b ∷ bytes) =

@@ -1,14 +1,9 @@
-ghost use Rattle.std.specs.Prelude.{◌≡◌, ◌<◌, ◌≤◌, List, length};
+ghost use Rattle.std.specs.Prelude.{◌<◌, ◌≤◌, List, length};
 ghost use Rattle.semantics.specs.declared.kind.Column.{Column};
-ghost use Rattle.semantics.specs.declared.refusal.Refusal.TheVariants.{WrongForm};
-ghost use Rattle.semantics.specs.Conditions.{Condition};
-ghost use Rattle.semantics.specs.Outcomes.{done};
-ghost use Rattle.semantics.specs.Reading.{condition_form};
-ghost use Rattle.semantics.specs.Records as meant;
-ghost use Rattle.semantics.specs.Records.{table_record, select_record, project_record, product_record, union_record, difference_record};
+ghost use Rattle.semantics.specs.Records.{table_record, project_record, product_record, union_record, difference_record};
 ghost use Rattle.book.specs.Books.{book_model};
-ghost use Rattle.records.specs.Saying.{Says, Short};
-ghost use Rattle.query.specs.Plans.{record_count, OnStack, Grows, SidesAre};
+ghost use Rattle.records.specs.Saying.{Short};
+ghost use Rattle.query.specs.Plans.{record_count, Grows, GrowsBy, Selects, SidesIn};
 
 use crate::kinds::Kinds;
 use crate::plan::Plan;
@@ -20,7 +15,7 @@ use semantics::Refusal;
 impl Plan {
     /// The last two relations.
     fn sides(&self) -> Result<Sides, Refusal>
-        ensures { (columns : List (List Column)) → OnStack columns self.now (λ stack. SidesAre columns (record_count self.now) stack result) }
+        ensures { (columns : List (List Column)) → SidesIn columns self.now result }
     {
         let right = self.part()?.step;
         let short = Refusal::StackShort(self.place());
@@ -51,7 +46,7 @@ impl Plan {
 
     /// A selection from the last relation.
     fn select(&self, body: &[u8]) -> Result<Step, Refusal>
-        ensures { (columns : List (List Column)) (c : Condition) → condition_form (WrongForm (record_count self.now)) body.now ≡ done c → Grows columns self.now (select_record c) result }
+        ensures { (columns : List (List Column)) → Selects columns self.now body.now result }
     {
         let place = self.place();
         let part = self.part()?.step;
@@ -115,7 +110,7 @@ impl Plan {
     /// What a record adds to the plan, once the questions about its parts have passed.
     pub(crate) fn grow(&self, said: Record, book: &Book) -> Result<Step, Refusal>
         requires { (record_count self.now < 15) × (Short said) }
-        ensures { (says : meant.Record) → Says (record_count self.now) said.entry says → Grows (book_model book.now).columns self.now says result }
+        ensures { GrowsBy (book_model book.now).columns self.now said.entry result }
     {
         match said {
             Record::Table(number) => self.table(number, book),

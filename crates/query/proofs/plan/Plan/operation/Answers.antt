@@ -19,7 +19,7 @@ kept_is qs i o false h s l = h refl l
 pub returns-in_err-planned : goal.returns-in_err-planned
 returns-in_err-planned c =
     rw c.from_residual.ensures
-    (record { lower = tt; reads = λ columns qs plans h. kept columns c.args.query.now c.args.self.now qs plans c.args.number h c.in_err-planned.ensures })
+    (record { lower = tt; reads = λ columns qs plans h. kept columns c.args.query.now c.args.self.now qs plans c.args.number h c.in_err-planned.ensures; past = λ h. refl })
 
 pub returns-in_err-rest : goal.returns-in_err-rest
 returns-in_err-rest c =
@@ -28,6 +28,7 @@ returns-in_err-rest c =
       lower = tt;
       reads = λ columns qs plans h.
           within columns c.args.query.now c.args.self.now qs plans c.args.number c.in_ok-planned.planned c.in_ok-planned.ensures (grind (arith, c.in_err-rest.ensures.lookup));
+      past = λ h. refl;
     })
 
 pub place_of-place-requires : goal.place_of-place-requires
@@ -44,3 +45,6 @@ returns-clause-reads c columns qs plans h =
     let of = says_of qs i p.step.left c.read.result.0 c.saturating_sub.result (relation qs i) c.saturating_sub.ensures said (plans.each i p c.in_ok-planned.ensures).parted in
     let s = subst (λ o. OperationOf qs i o (relation qs i) × Lower i o) (sym c.of-operation.ensures) of in
     rw c.then_some.ensures (kept_is qs i c.of-operation.result c.is_lower.result c.is_lower.ensures.no s.0 s.1)
+
+pub returns-clause-past : goal.returns-clause-past
+returns-clause-past c h = absurd (let k = slice_get_within _ c.args.number c.in_ok-planned.planned (sym c.in_ok-planned.ensures) in omega arith)
