@@ -35,7 +35,7 @@ pub fn store(
     carrier: u32,
     price: u32,
 ) -> Result<(), Refusal>
-    ensures step { Steps result (tariff_stored (book_model book.old) table digits.now carrier price) (book_model book.old) (book_model book.new) }
+    ensures step { let m = book_model book.old in Steps result (tariff_stored m table digits.now carrier price) m (book_model book.new) }
     ensures kept { Kept result (memory book.old) (memory book.new) }
 {
     let row = tariff(digits, carrier, price)?;
