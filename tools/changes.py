@@ -111,7 +111,7 @@ def measure(args):
     edits_kept = [name for name in tried if name not in kept]
     for name, phases in [(it, PHASES[:3]) for it in kept] + [(it, PHASES[2:3]) for it in edits_kept]:
         for phase in phases:
-            crates[name][phase] = last.get(name, {}).get(phase, 0)
+            crates[name][phase] = last.get(name, {}).get(phase, crates[name][phase])
     used = resource.getrusage(resource.RUSAGE_CHILDREN)
     seconds = {name: {phase: round(it[phase], 1) for phase in PHASES if it[phase]} for name, it in sorted(crates.items()) if it.total()}
     head = {'commit': git('rev-parse', '--short', 'HEAD').strip(), 'status': status, 'cores': os.cpu_count(),

@@ -23,7 +23,9 @@ module _ (row : List Masked) where
   puts : (t : Truth) (ts : List Truth) → length ts < 15 → pushed t ts ≡ t ∷ ts
   puts t ts h = cond-true (ltb (length ts) 15) (t ∷ ts) ts (lt-ltb _ _ h)
 
-  two : (c d : Condition) (ts : List Truth) (t : Term) → after ts (terms c) ≡ truth c row ∷ ts → after (truth c row ∷ ts) (terms d) ≡ truth d row ∷ (truth c row ∷ ts) → after ts ((terms c ++ terms d) ++ t ∷ []) ≡ stepped t row (truth d row ∷ (truth c row ∷ ts))
+  two : (c d : Condition) (ts : List Truth) (t : Term) → after ts (terms c) ≡ truth c row ∷ ts
+      → after (truth c row ∷ ts) (terms d) ≡ truth d row ∷ (truth c row ∷ ts)
+      → after ts ((terms c ++ terms d) ++ t ∷ []) ≡ stepped t row (truth d row ∷ (truth c row ∷ ts))
   two c d ts t a b =
       fold-append (λ ts t. stepped t row ts) ts (terms c ++ terms d) (t ∷ [])
       ∙ ap (stepped t row) (fold-append (λ ts t. stepped t row ts) ts (terms c) (terms d) ∙ ap (λ us. after us (terms d)) a ∙ b)
@@ -34,16 +36,21 @@ module _ (row : List Masked) where
   leaves (conjunction c d) ts h =
       let m = length-append (terms c ++ terms d) (conjoining ∷ []) in
       let n = length-append (terms c) (terms d) in
-      two c d ts conjoining (leaves c ts (omega arith)) (leaves d (truth c row ∷ ts) (omega arith)) ∙ puts (both (truth c row) (truth d row)) ts (omega arith)
+      two c d ts conjoining (leaves c ts (omega arith)) (leaves d (truth c row ∷ ts) (omega arith))
+      ∙ puts (both (truth c row) (truth d row)) ts (omega arith)
   leaves (disjunction c d) ts h =
       let m = length-append (terms c ++ terms d) (disjoining ∷ []) in
       let n = length-append (terms c) (terms d) in
-      two c d ts disjoining (leaves c ts (omega arith)) (leaves d (truth c row ∷ ts) (omega arith)) ∙ puts (either (truth c row) (truth d row)) ts (omega arith)
+      two c d ts disjoining (leaves c ts (omega arith)) (leaves d (truth c row ∷ ts) (omega arith))
+      ∙ puts (either (truth c row) (truth d row)) ts (omega arith)
   leaves (negation c) ts h =
       let m = length-append (terms c) (negating ∷ []) in
       fold-append (λ ts t. stepped t row ts) ts (terms c) (negating ∷ [])
       ∙ ap (stepped negating row) (leaves c ts (omega arith))
       ∙ puts (opposite (truth c row)) ts (omega arith)
 
-  pub truth_on_top : (e : Refusal) (body : List ℕ) (c : Condition) → condition_form e body ≡ done c → top (after [] (terms_in body)) ≡ truth c row
-  truth_on_top e body c h = ap (λ ts. top (after [] ts)) (condition-terms e body c h) ∙ ap top (leaves c [] (omega (arith, condition-few e body c h)))
+  pub truth_on_top : (e : Refusal) (body : List ℕ) (c : Condition) → condition_form e body ≡ done c
+      → top (after [] (terms_in body)) ≡ truth c row
+  truth_on_top e body c h =
+      ap (λ ts. top (after [] ts)) (condition-terms e body c h)
+      ∙ ap top (leaves c [] (omega (arith, condition-few e body c h)))

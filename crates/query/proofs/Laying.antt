@@ -12,7 +12,7 @@ use Rattle.semantics.specs.Conditions.{Condition, named_comparison, fitting_comp
 use Rattle.semantics.specs.Kinds.{same_kind}
 use Rattle.semantics.specs.Lists.{pairwise}
 use Rattle.semantics.specs.Outcomes.{Outcome, done, refuse, question, and_then}
-use Rattle.semantics.specs.Queries.{Tree, table, select, project, product, nodes, parts_of, kinds_of, chain, answered}
+use Rattle.semantics.specs.Queries.{Tree, table, select, project, product, nodes, parts_of, kinds_of, chain, all_yes}
 use Rattle.semantics.specs.Reading.{next_said, Making, of_one, of_two, Grown, grown, put}
 use Rattle.semantics.specs.Records.{Record, record_of}
 use Rattle.semantics.proofs.Trees.{put_passes, nodes_end, Makes}
@@ -143,7 +143,7 @@ module _ (columns : List (List Column)) (bytes : List ℕ) (plan : Plan) where
         (says : Record) → Makes says (of_one make) →
         (stack : List Tree) (p : Planned) (step : Step) → Plans columns bytes plan (laid stack) → Some p ≡ slice_get (planned_in plan) (record_count plan - 1) →
         step.left ≡ record_count plan - 1 → step.start ≡ p.step.start →
-        ((x : Tree) → kinds_in p.step.kinds ≡ kinds_of columns x → (answered columns (make x) chain ≡ true) × (kinds_in step.kinds ≡ kinds_of columns (make x))) →
+        ((x : Tree) → kinds_in p.step.kinds ≡ kinds_of columns x → (all_yes columns (make x) chain ≡ true) × (kinds_in step.kinds ≡ kinds_of columns (make x))) →
         Grew columns stack step says (put_on columns (record_count plan) (of_one make) stack)
     one_grew says so [] p step plans h l s passes = absurd (no-record plans p h)
     one_grew says so (x ∷ below) p step plans h l s passes =
@@ -199,7 +199,7 @@ module _ (columns : List (List Column)) (n : ℕ) (make : Tree → Tree → Tree
     pub two_grew :
         (says : Record) → Makes says (of_two make) →
         (stack : List Tree) (step : Step) → SidesAre columns n stack (Ok s) → step.left ≡ s.number → step.start ≡ s.left.start →
-        ((x y : Tree) → kinds_in s.left.kinds ≡ kinds_of columns y → kinds_in s.right.kinds ≡ kinds_of columns x → (answered columns (make y x) chain ≡ true) × (kinds_in step.kinds ≡ kinds_of columns (make y x))) →
+        ((x y : Tree) → kinds_in s.left.kinds ≡ kinds_of columns y → kinds_in s.right.kinds ≡ kinds_of columns x → (all_yes columns (make y x) chain ≡ true) × (kinds_in step.kinds ≡ kinds_of columns (make y x))) →
         Grew columns stack step says (put_on columns n (of_two make) stack)
     two_grew says so [] step t l s passes = absurd t
     two_grew says so (x ∷ []) step t l s passes = absurd t
@@ -241,16 +241,16 @@ module _ (columns : List (List Column)) (n : ℕ) {X : Type 0} (next : Outcome X
       rw a
 
 module _ (columns : List (List Column)) where
-  pub select_passes : (c : Condition) (x : Tree) (kinds : List Kind) → kinds ≡ kinds_of columns x → true ≡ every_comparison (named_comparison kinds) c → true ≡ every_comparison (fitting_comparison kinds) c → answered columns (select c x) chain ≡ true
+  pub select_passes : (c : Condition) (x : Tree) (kinds : List Kind) → kinds ≡ kinds_of columns x → true ≡ every_comparison (named_comparison kinds) c → true ≡ every_comparison (fitting_comparison kinds) c → all_yes columns (select c x) chain ≡ true
   select_passes c x kinds k e f =
       let a : every_comparison (named_comparison (kinds_of columns x)) c ≡ true = sym (e ∙ ap (λ ks. every_comparison (named_comparison ks) c) k) in
       let b : every_comparison (fitting_comparison (kinds_of columns x)) c ≡ true = sym (f ∙ ap (λ ks. every_comparison (fitting_comparison ks) c) k) in
       rw (a, b)
 
-  pub project_passes : (cs : List ℕ) (x : Tree) (kinds : List Kind) → kinds ≡ kinds_of columns x → among kinds cs ≡ true → answered columns (project cs x) chain ≡ true
+  pub project_passes : (cs : List ℕ) (x : Tree) (kinds : List Kind) → kinds ≡ kinds_of columns x → among kinds cs ≡ true → all_yes columns (project cs x) chain ≡ true
   project_passes cs x kinds k e = let a : among (kinds_of columns x) cs ≡ true = sym (ap (λ ks. among ks cs) k) ∙ e in rw a
 
-  pub product_passes : (x y : Tree) (left right : List Kind) → left ≡ kinds_of columns y → right ≡ kinds_of columns x → length left + length right ≤ 8 → answered columns (product y x) chain ≡ true
+  pub product_passes : (x y : Tree) (left right : List Kind) → left ≡ kinds_of columns y → right ≡ kinds_of columns x → length left + length right ≤ 8 → all_yes columns (product y x) chain ≡ true
   product_passes x y left right l r h =
       let a : leb (length (kinds_of columns y) + length (kinds_of columns x)) 8 ≡ true = le-leb _ _ (omega (arith, ap length l, ap length r)) in
       rw a

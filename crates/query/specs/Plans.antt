@@ -76,8 +76,8 @@ abbrev pub Grows : List (List Column) → Plan → Record → Result Step Refusa
 Grows columns plan says r = OnStack columns plan (λ stack. StepIs columns stack says r (asked columns (record_count plan) says stack))
 
 -- The code answers what a select with this body adds to the plan, or why it is refused.
-abbrev pub Selects : List (List Column) → Plan → List ℕ → Result Step Refusal → Type 0
-Selects columns plan body r =
+abbrev pub SelectGrows : List (List Column) → Plan → List ℕ → Result Step Refusal → Type 0
+SelectGrows columns plan body r =
     (c : Condition) → condition_form (WrongForm (record_count plan)) body ≡ done c → Grows columns plan (select_record c) r
 
 -- The code answers what its record adds to the plan, or why it is refused.

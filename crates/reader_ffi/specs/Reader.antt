@@ -1,10 +1,12 @@
 -- What the reader says in bare numbers of what the questions answer to a query.
-use Rattle.std.specs.Prelude.{ℕ, List, length, Some, None, Option, slice_get}
+use Rattle.std.specs.Prelude.{◌≡◌, ℕ, List, length, Some, None, Option, slice_get}
 use Rattle.semantics.specs.declared.kind.Kind.{Kind}
 use Rattle.semantics.specs.Kinds.{kind_number}
 use Rattle.semantics.specs.Outcomes.{Outcome, refused, done}
 use Rattle.semantics.specs.Queries.{Tree, nodes, kinds_of}
 use Rattle.semantics.specs.Reading.{questions}
+use Rattle.query.specs.declared.plan.Plan.{Plan}
+use Rattle.query.specs.Plans.{Plans}
 use Rattle.tariffs.specs.Columns.{reader_tables}
 
 -- The tree of the query over the fixed columns, or its refusal.
@@ -25,6 +27,10 @@ place_in (done q) = length (nodes q)
 abbrev pub kind_in : Outcome Tree → ℕ → Option Kind
 kind_in (refused n p) column = None
 kind_in (done q) column = slice_get (kinds_of reader_tables q) column
+
+-- The code's answer is the kind of a column of the relation whose plan this is.
+abbrev pub KindOf : Plan → ℕ → Option Kind → Type 0
+KindOf plan column k = (bytes : List ℕ) (q : Tree) → Plans reader_tables bytes plan (nodes q) → k ≡ slice_get (kinds_of reader_tables q) column
 
 -- The number of a kind, 0 for none.
 abbrev pub bare : Option Kind → ℕ

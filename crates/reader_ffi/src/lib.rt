@@ -3,12 +3,11 @@
 
 #![tactic(auto)]
 
-ghost use Rattle.std.specs.Prelude.{◌≡◌, ℕ, List, slice_get};
-ghost use Rattle.semantics.specs.Queries.{Tree, nodes, kinds_of};
+ghost use Rattle.std.specs.Prelude.{◌≡◌, slice_get};
 ghost use Rattle.query.specs.Kinds.{kinds_in};
-ghost use Rattle.query.specs.Plans.{Plans, Checks};
+ghost use Rattle.query.specs.Plans.{Checks};
 ghost use Rattle.tariffs.specs.Columns.{reader_tables};
-ghost use Rattle.reader_ffi.specs.Reader.{outcome, refused_number, place_in, kind_in, bare};
+ghost use Rattle.reader_ffi.specs.Reader.{outcome, refused_number, place_in, kind_in, KindOf, bare};
 
 use cells::Cell;
 use query::{Kinds, Plan, check};
@@ -33,7 +32,7 @@ fn kind_of(kinds: &Kinds, column: usize) -> Option<Kind>
 
 /// The kind of a column of the relation of a plan's query, if it has a column of this number.
 fn column_kind(plan: &Plan, column: usize) -> Option<Kind>
-    ensures { (bytes : List ℕ) (q : Tree) → Plans reader_tables bytes plan.now (nodes q) → result ≡ slice_get (kinds_of reader_tables q) column }
+    ensures { KindOf plan.now column result }
 {
     kind_of(&plan.kinds()?, column)
 }

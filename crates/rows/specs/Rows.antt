@@ -44,8 +44,8 @@ pub record Grouped : Type 0 where
 abbrev pub with_group : (semantics.Masked → semantics.Masked) → Masked × Masked → Grouped
 with_group group p = record { left = masked_of p.0; right = masked_of p.1; group = group (masked_of p.0) }
 
-abbrev pub paired : (semantics.Masked → semantics.Masked) → List Masked → List Masked → List Grouped
-paired group a b = map (with_group group) (zip a b)
+abbrev pub with_groups : (semantics.Masked → semantics.Masked) → List Masked → List Masked → List Grouped
+with_groups group a b = map (with_group group) (zip a b)
 
 abbrev pub cells_and_group : Pair → Grouped
 cells_and_group p = record { left = masked_of p.left; right = masked_of p.right; group = masked_of p.group }

@@ -3,7 +3,7 @@ ghost use Rattle.std.specs.List.{list_all};
 ghost use Rattle.bounded.specs.Bounded.{items};
 ghost use Rattle.semantics.specs.Compatible.{group_of};
 ghost use Rattle.view.specs.Views.{masked_of};
-ghost use Rattle.rows.specs.Rows.{clash, agree, all_agree, cells_and_group, paired};
+ghost use Rattle.rows.specs.Rows.{clash, agree, all_agree, cells_and_group, with_groups};
 
 use crate::columns::differ;
 use crate::groups::Groups;
@@ -48,7 +48,7 @@ impl Pair {
 /// The cells of each column of two rows, the first of at most 8 cells, with their group.
 pub(crate) fn pairs(a: &[Masked], b: &[Masked]) -> Bounded<Pair, 8>
     requires { length a.now ≤ 8 }
-    ensures { map cells_and_group (items result) ≡ paired (group_of (map masked_of a.now) (map masked_of b.now)) a.now b.now }
+    ensures { map cells_and_group (items result) ≡ with_groups (group_of (map masked_of a.now) (map masked_of b.now)) a.now b.now }
 {
     let groups = Groups::of_columns(a, b);
     let mut pairs = Bounded::new(Pair {

@@ -10,7 +10,7 @@ use Rattle.semantics.specs.Bytes.{is_byte, record_bytes}
 use Rattle.semantics.specs.Conditions.{Condition, formed_condition}
 use Rattle.semantics.specs.Lists.{every}
 use Rattle.semantics.specs.Outcomes.{Outcome, done, refuse, question, and_then}
-use Rattle.semantics.specs.Queries.{Tree, table, select, project, product, union, difference, nodes, parts_of, formed, Question, chain, answered, proper, well_formed}
+use Rattle.semantics.specs.Queries.{Tree, table, select, project, product, union, difference, nodes, parts_of, formed, Question, chain, all_yes, proper, well_formed}
 use Rattle.semantics.specs.Records.{Record, table_record, select_record, project_record, product_record, union_record, difference_record, record_of, record_number, record_body, own_bytes, encode}
 use Rattle.semantics.specs.Reading.{empty_form, condition_form, table_form, record_form, said_by, Making, alone, of_one, of_two, making, Grown, grown, put, asked, query_faults, query_walk, questions, Query, ReadsExactly, ReadsOneWay}
 use Rattle.semantics.proofs.Every.{every_append}
@@ -21,18 +21,18 @@ use Rattle.semantics.proofs.Walking.{Goes, Reads, reads_none, reads-one, reads_t
 
 -- questions let a relation pass exactly when each is answered with "yes"
 module _ {X : Type 0} (columns : List (List Column)) (n : ℕ) (q : Tree) (next : Outcome X) where
-  pub put_passes : (questions : List Question) → answered columns q questions ≡ true → put columns n q questions next ≡ next
+  pub put_passes : (questions : List Question) → all_yes columns q questions ≡ true → put columns n q questions next ≡ next
   put_passes [] h = refl
   put_passes (k ∷ questions) h =
-      let p = and_parts (k.asks columns q) (answered columns q questions) h in
+      let p = and_parts (k.asks columns q) (all_yes columns q questions) h in
       ap (λ b. question b (k.refusal n) (put columns n q questions next)) p.0 ∙ put_passes questions p.1
 
-  pub put_passed : (questions : List Question) (x : X) → put columns n q questions next ≡ done x → (answered columns q questions ≡ true) × (next ≡ done x)
+  pub put_passed : (questions : List Question) (x : X) → put columns n q questions next ≡ done x → (all_yes columns q questions ≡ true) × (next ≡ done x)
   put_passed [] x h = (refl, h)
   put_passed (k ∷ questions) x h =
       let a = question-done (k.asks columns q) (k.refusal n) (put columns n q questions next) x h in
       let p = put_passed questions x a.1 in
-      (and_from (k.asks columns q) (answered columns q questions) a.0 p.0, p.1)
+      (and_from (k.asks columns q) (all_yes columns q questions) a.0 p.0, p.1)
 
 -- a relation stands after its parts, and has the record that makes it
 pub nodes_end : (q : Tree) → (below : List Tree) × (nodes q ≡ below ++ q ∷ [])
@@ -190,7 +190,7 @@ module _ (columns : List (List Column)) where
   -- a relation whose record and parts go together is put on the stack
   stepped : (q : Tree) (n : ℕ) (stack below : List Tree) → proper columns q ≡ true → grown (StackShort n) (making (record_of q)) stack ≡ done (record { top = q; below = below }) → Goes query_faults said_by (asked columns) encode size n (record_number (record_of q)) (record_body (record_of q)) stack (q ∷ below)
   stepped q n stack below h g =
-      let p = and_parts (formed q) (answered columns q chain) h in
+      let p = and_parts (formed q) (all_yes columns q chain) h in
       let s : Record = record_of q in
       let f : formed_record s ≡ true = sym (formed-is q) ∙ p.0 in (
         s,
@@ -296,7 +296,7 @@ module _ (columns : List (List Column)) where
       let g : Grown = q.0 in
       let x = put_passed columns n g.top (done (g.top ∷ g.below)) chain next q.2 in
       let f : formed g.top ≡ true = formed-is g.top ∙ ap formed_record (grown_record (StackShort n) s (making s) (makes s) stack g q.1) ∙ said.form in
-      let m : Made s stack (g.top ∷ g.below) = grown-back (StackShort n) s (making s) (makes s) stack g (and_from (formed g.top) (answered columns g.top chain) f x.0) all q.1 in
+      let m : Made s stack (g.top ∷ g.below) = grown-back (StackShort n) s (making s) (makes s) stack g (and_from (formed g.top) (all_yes columns g.top chain) f x.0) all q.1 in
       let d : done (g.top ∷ g.below) ≡ done next = x.1 in
       let same : g.top ∷ g.below ≡ next = cc in
       subst (λ (l : List Tree). Stepped query_faults said_by (asked columns) encode size good kind body stack l) same

@@ -95,12 +95,12 @@ chain =
     ∷ []
 
 -- Are these questions all answered with "yes"?
-abbrev pub answered : List (List Column) → Tree → List Question → Bool
-answered columns q questions = every (λ k. k.asks columns q) questions
+abbrev pub all_yes : List (List Column) → Tree → List Question → Bool
+all_yes columns q questions = every (λ k. k.asks columns q) questions
 
 -- Do a relation's own record and its parts go together?
 abbrev pub proper : List (List Column) → Tree → Bool
-proper columns q = formed q && answered columns q chain
+proper columns q = formed q && all_yes columns q chain
 
 -- Is the tree well formed: do they in every relation of it?
 abbrev pub well_formed : List (List Column) → Tree → Bool

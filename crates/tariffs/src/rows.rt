@@ -1,7 +1,7 @@
 ghost use Rattle.std.specs.Prelude.{map};
-ghost use Rattle.semantics.specs.Outcomes.{AnswersAs, Steps, Kept};
+ghost use Rattle.semantics.specs.Outcomes.{AnswersAs};
 ghost use Rattle.cells.specs.Cells.{cell_value};
-ghost use Rattle.book.specs.Books.{book_model, memory};
+ghost use Rattle.book.specs.Books.{book_model, Alters};
 ghost use Rattle.tariffs.specs.Tariffs.{tariff_row, tariff_stored};
 
 use book::Book;
@@ -35,8 +35,7 @@ pub fn store(
     carrier: u32,
     price: u32,
 ) -> Result<(), Refusal>
-    ensures step { Steps result (tariff_stored (book_model book.old) table digits.now carrier price) (book_model book.old) (book_model book.new) }
-    ensures kept { Kept result (memory book.old) (memory book.new) }
+    ensures { Alters result (tariff_stored (book_model book.old) table digits.now carrier price) book.old book.new }
 {
     let row = tariff(digits, carrier, price)?;
     book.store(table, &row)

@@ -21,5 +21,5 @@ abbrev pub Writes : Record → List ℕ → Result (Unit {0}) WriteError → Lis
 Writes says before result after = Appends (record_number says) (record_body says) before result after
 
 -- The same of a select, whose body is these terms.
-abbrev pub Selects : List Term → List ℕ → Result (Unit {0}) WriteError → List ℕ → Type 0
-Selects terms before result after = Appends (record_kind_number Select) (flat_map term_bytes terms) before result after
+abbrev pub SelectWritten : List Term → List ℕ → Result (Unit {0}) WriteError → List ℕ → Type 0
+SelectWritten terms before result after = Appends (record_kind_number Select) (flat_map term_bytes terms) before result after

@@ -3,7 +3,7 @@ ghost use Rattle.semantics.specs.Records.{table_record, project_record, product_
 ghost use Rattle.records.specs.RecordKinds.{record_kind_number};
 ghost use Rattle.records.specs.Terms.{term_of};
 ghost use Rattle.writing.specs.Queries.{query_bytes};
-ghost use Rattle.writing.specs.Writing.{Appends, Selects, Writes};
+ghost use Rattle.writing.specs.Writing.{Appends, SelectWritten, Writes};
 
 use crate::condition::condition;
 use crate::error::WriteError;
@@ -51,7 +51,7 @@ impl Query {
     /// Appends: the rows of the relation before it for which the conditions, parts first, hold.
     #[tactic(auto, using(crate::proofs::Selecting::refused))]
     pub fn select(&mut self, conditions: &[Term<'_>]) -> Result<(), WriteError>
-        ensures { Selects (map term_of conditions.now) (query_bytes self.old) result (query_bytes self.new) }
+        ensures { SelectWritten (map term_of conditions.now) (query_bytes self.old) result (query_bytes self.new) }
     {
         let mut body = Vec::new(*self.bytes.allocator());
         for term in conditions {

@@ -3,7 +3,7 @@ ghost use Rattle.semantics.specs.declared.kind.Column.{Column};
 ghost use Rattle.semantics.specs.Records.{table_record, project_record, product_record, union_record, difference_record};
 ghost use Rattle.book.specs.Books.{book_model};
 ghost use Rattle.records.specs.Saying.{Short};
-ghost use Rattle.query.specs.Plans.{record_count, Grows, GrowsBy, Selects, SidesIn};
+ghost use Rattle.query.specs.Plans.{record_count, Grows, GrowsBy, SelectGrows, SidesIn};
 
 use crate::kinds::Kinds;
 use crate::plan::Plan;
@@ -46,7 +46,7 @@ impl Plan {
 
     /// A selection from the last relation.
     fn select(&self, body: &[u8]) -> Result<Step, Refusal>
-        ensures { (columns : List (List Column)) → Selects columns self.now body.now result }
+        ensures { (columns : List (List Column)) → SelectGrows columns self.now body.now result }
     {
         let place = self.place();
         let part = self.part()?.step;
