@@ -53,9 +53,9 @@ impl Task<'_, '_, '_> {
                 memo.union(Bound::Low, number, left, right)
             }
             Operation::Difference(first, second) => {
-                let left = self.low(memo, first)?;
+                let from = self.low(memo, first)?;
                 let removed = self.high(memo, second)?;
-                memo.difference(Bound::Low, number, left, removed)
+                memo.difference(Bound::Low, number, from, removed)
             }
         }
     }
@@ -95,9 +95,9 @@ impl Task<'_, '_, '_> {
                 memo.union(Bound::High, number, left, right)
             }
             Operation::Difference(first, second) => {
-                let left = self.high(memo, first)?;
+                let from = self.high(memo, first)?;
                 let removed = self.low(memo, second)?;
-                memo.difference(Bound::High, number, left, removed)
+                memo.difference(Bound::High, number, from, removed)
             }
         }
     }

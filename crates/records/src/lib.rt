@@ -14,5 +14,5 @@ pub use first::{First, first_record};
 pub use kind::{RecordKind, TermKind, UnknownKind};
 pub use reader::Reader;
 pub use record::Record;
-pub use term::{Term, first_term};
+pub use term::Term;
 pub use terms::Terms;

@@ -8,8 +8,6 @@ use semantics::Operator;
 
 /// What a condition record says: a comparison of a column with another, with a number or with the
 /// digits of a prefix, which stay a part of the query, or how conditions are joined.
-// One case a kind of record: with the right side a type of its own, each `Term::ByColumn(operator, 0, 1)` of the
-// programs would be a `Term::Comparing(operator, 0, Right::Column(1))`.
 #[derive(Clone, Copy, PartialEq, Eq, Debug)]
 pub enum Term<'q> {
     ByColumn(Operator, u8, u8),
@@ -21,7 +19,7 @@ pub enum Term<'q> {
 }
 
 /// The first condition record of some bytes, and the bytes after it.
-pub fn first_term(bytes: &[u8]) -> Option<(Term<'_>, &[u8])>
+pub(crate) fn first_term(bytes: &[u8]) -> Option<(Term<'_>, &[u8])>
     ensures { (e : Refusal) → NextTermIs e result (next_term e bytes.now) }
 {
     let first = first_record(bytes)?;

@@ -50,11 +50,11 @@ low-returns-in_ok-right-in-Union-clause-found t c =
 
 pub low-difference-requires-clause-outside : goal.low-difference-requires-clause-outside
 low-difference-requires-clause-outside t c =
-    both-outside c.in_ok-left-in-Difference.ensures.lies c.in_ok-removed-in-Difference.ensures.lies (rw c.in-Difference.is at c.in_ok-operation.ensures.lower) c.requires.lower
+    both-outside c.in_ok-from-in-Difference.ensures.lies c.in_ok-removed-in-Difference.ensures.lies (rw c.in-Difference.is at c.in_ok-operation.ensures.lower) c.requires.lower
 
 pub low-returns-in_ok-removed-in-Difference-clause-found : goal.low-returns-in_ok-removed-in-Difference-clause-found
 low-returns-in_ok-removed-in-Difference-clause-found t c =
-    difference-answers c.requires.lower c.in_ok-left-in-Difference.ensures.lies c.in_ok-left-in-Difference.ensures.found c.in_ok-removed-in-Difference.ensures.lies c.in_ok-removed-in-Difference.ensures.found (rw c.in-Difference.is at c.in_ok-operation.ensures.lower) refl (rw c.in-Difference.is at c.in_ok-operation.ensures.reads) c.difference.ensures.notes
+    difference-answers c.requires.lower c.in_ok-from-in-Difference.ensures.lies c.in_ok-from-in-Difference.ensures.found c.in_ok-removed-in-Difference.ensures.lies c.in_ok-removed-in-Difference.ensures.found (rw c.in-Difference.is at c.in_ok-operation.ensures.lower) refl (rw c.in-Difference.is at c.in_ok-operation.ensures.reads) c.difference.ensures.notes
 
 pub high-returns-in_err-operation-clause-found : goal.high-returns-in_err-operation-clause-found
 high-returns-in_err-operation-clause-found t c =
@@ -102,8 +102,8 @@ high-returns-in_ok-right-in-Union-clause-found t c =
 
 pub high-difference-requires-clause-outside : goal.high-difference-requires-clause-outside
 high-difference-requires-clause-outside t c =
-    both-outside c.in_ok-left-in-Difference.ensures.lies c.in_ok-removed-in-Difference.ensures.lies (rw c.in-Difference.is at c.in_ok-operation.ensures.lower) c.requires.lower
+    both-outside c.in_ok-from-in-Difference.ensures.lies c.in_ok-removed-in-Difference.ensures.lies (rw c.in-Difference.is at c.in_ok-operation.ensures.lower) c.requires.lower
 
 pub high-returns-in_ok-removed-in-Difference-clause-found : goal.high-returns-in_ok-removed-in-Difference-clause-found
 high-returns-in_ok-removed-in-Difference-clause-found t c =
-    difference-answers c.requires.lower c.in_ok-left-in-Difference.ensures.lies c.in_ok-left-in-Difference.ensures.found c.in_ok-removed-in-Difference.ensures.lies c.in_ok-removed-in-Difference.ensures.found (rw c.in-Difference.is at c.in_ok-operation.ensures.lower) refl (rw c.in-Difference.is at c.in_ok-operation.ensures.reads) c.difference.ensures.notes
+    difference-answers c.requires.lower c.in_ok-from-in-Difference.ensures.lies c.in_ok-from-in-Difference.ensures.found c.in_ok-removed-in-Difference.ensures.lies c.in_ok-removed-in-Difference.ensures.found (rw c.in-Difference.is at c.in_ok-operation.ensures.lower) refl (rw c.in-Difference.is at c.in_ok-operation.ensures.reads) c.difference.ensures.notes
