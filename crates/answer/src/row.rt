@@ -9,7 +9,7 @@ use bounded::Bounded;
 use view::{Masked, View, cell_at};
 use workspace::Block;
 
-/// A row on its way from one place of a workspace to another: at most 8 cells.
+/// A row on its way into an answer: at most 8 cells.
 #[derive(Clone, Copy, PartialEq, Eq, Debug)]
 pub(crate) struct Row {
     cells: Bounded<Masked, 8>,

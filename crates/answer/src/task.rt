@@ -1,11 +1,13 @@
-ghost use Rattle.std.specs.Prelude.{◌<◌};
-ghost use Rattle.answer.specs.Notes.{Lies, Settles};
+ghost use Rattle.std.specs.Prelude.{◌≡◌, ◌<◌};
+ghost use Rattle.answer.specs.Notes.{Lies, Overfull, Settles};
 
 pub(crate) mod split;
 
 use crate::bound::Bound;
 use crate::memo::Memo;
+use crate::refusal::too_many_rows;
 use query::{Operation, Plan};
+use semantics::Refusal;
 use view::View;
 use workspace::Block;
 
@@ -100,5 +102,16 @@ impl Task<'_, '_, '_> {
                 memo.difference(Bound::High, number, from, removed)
             }
         }
+    }
+
+    /// Finds all high answers, or refuses the lowest record whose high answer has too many rows.
+    fn overfull(self, memo: &mut Memo) -> Result<(), Refusal>
+        ensures limit { memo.new.output.limit ≡ memo.old.output.limit }
+        ensures lowest { Overfull self.entry memo.old memo.new result }
+    {
+        for number in 0..self.plan.count() {
+            self.high(memo, number).ok_or(too_many_rows(number))?;
+        }
+        Ok(())
     }
 }

@@ -1,5 +1,5 @@
 ghost use Rattle.std.specs.Prelude.{◌≡◌, ◌<◌, ◌≢◌};
-ghost use Rattle.answer.specs.Notes.{Overfull, Splits};
+ghost use Rattle.answer.specs.Notes.{Splits};
 
 use crate::bound::Bound;
 use crate::memo::Memo;
@@ -24,17 +24,6 @@ fn spare(number: usize) -> usize
 }
 
 impl Task<'_, '_, '_> {
-    /// Finds all high answers, or refuses the lowest record whose high answer has too many rows.
-    fn overfull(self, memo: &mut Memo) -> Result<(), Refusal>
-        ensures limit { memo.new.output.limit ≡ memo.old.output.limit }
-        ensures lowest { Overfull self.entry memo.old memo.new result }
-    {
-        for number in 0..self.plan.count() {
-            self.high(memo, number).ok_or(too_many_rows(number))?;
-        }
-        Ok(())
-    }
-
     /// The certain and the possible rows of the query, or the refusal where a high answer has too many
     /// rows. The possible ones are written to the region of another record.
     pub(crate) fn split(self, memo: &mut Memo) -> Result<Split, Refusal>
