@@ -1,5 +1,5 @@
 -- One more cell of a view.
-use Rattle.std.proofs.Common.{◌≡◌, ℕ, zero, suc, ◌+◌, ◌<◌, ◌≤◌, Bool, true, false, cond, not, ◌&&◌, ◌||◌, eqb, ltb, ◌≢◌, List, [], length, get_or, set, min, Some, None, sym, refl, ap, ◌∙◌, subst, ⊎_elim, arith}
+use Rattle.std.proofs.Common.{◌≡◌, ℕ, zero, suc, ◌+◌, ◌<◌, ◌≤◌, Bool, true, false, cond, not, ◌&&◌, ◌||◌, eqb, ltb, ◌≢◌, ◌⊎◌, List, [], length, get_or, set, min, Some, None, sym, refl, ap, ◌∙◌, subst, inl, inr, ⊎_elim, arith}
 use Rattle.std.proofs.lemmas.List.{get_or_past, get_or-set_same, get_or-set_other, length-set}
 use Rattle.std.proofs.lemmas.Bool.{and_parts, and_from, cases_Bool, cases_lt, cases_eq, eqb-true, eq-eqb, ne_eqb}
 use Rattle.std.proofs.lemmas.Bool.Decides.{nat_tests}
@@ -23,8 +23,8 @@ use Rattle.view.specs.declared.masked.Masked.TheVariants.{Value, Variable, Pseud
 use Rattle.view.specs.declared.size.Size.{Size}
 use Rattle.view.specs.declared.view.View.{View}
 use Rattle.view.specs.Sizes.{size_at, size_within}
-use Rattle.view.specs.Views.{masked_of, masked_at, cell_of, row_in, table_in, view_tables, count_in, width_in}
-use Rattle.drawing.specs.Drawing.{places_before, Before, linked_among, is_pseudonym, index_in, Found, InDomain, Indexed, counted, HasNumber, Drawn, AllDrawn, Masks}
+use Rattle.view.specs.Views.{masked_of, masked_at, cell_of, row_in, table_in, view_tables, count_in, width_in, UnusedAreZero}
+use Rattle.drawing.specs.Drawing.{places_before, Before, linked_among, is_pseudonym, index_in, Found, InDomain, Indexed, counted, HasNumber, Drawn, AllDrawn, RestIsZero, Masks}
 use Rattle.drawing.specs.Scenes.{Sized}
 use Rattle.drawing.proofs.Books.{width-le, count-le, domain_lt, no-columns}
 use Rattle.drawing.proofs.Finding.{same_place}
@@ -159,6 +159,17 @@ module _ (mark : Place → Mark) (m : Model) (cells : List Masked) (numbers : Li
           ∙ drawn.cellwise q (b.0, b.1, step-cell (length (rows_of m q.table)) q.table q.column q.row t r c b.0 b.2 (λ (a, f, g). ne (omega arith))))
           (cases_eq (cell_index q.table q.row q.column) (cell_index t r c))
 
+      -- a cell that no row uses is another
+      unused-apart : (u s k : ℕ) → u < 4 → k < 8 → (length (rows_of m u) ≤ s) ⊎ (length (columns_of m u) ≤ k) → cell_index u s k ≢ cell_index t r c
+      unused-apart u s k a b e same =
+          let wt = narrow t in
+          let et : u ≡ t = omega arith in
+          let es : s ≡ r = omega arith in
+          let ek : k ≡ c = omega arith in
+          let rows : length (rows_of m u) ≡ length (rows_of m t) = ap (λ n. length (rows_of m n)) et in
+          let columns : length (columns_of m u) ≡ length (columns_of m t) = ap (λ n. length (columns_of m n)) et in
+          ⊎_elim (λ (h : length (rows_of m u) ≤ s). omega arith) (λ (h : length (columns_of m u) ≤ k). omega arith) e
+
       pub drawn-cell : (new : List ℕ) → Raised (mark (place_of t r c)) (domain_of m (place_of t r c)) numbers new → Drawn mark m (place_of t r (c + 1)) (set cells (cell_index t r c) x) new
       drawn-cell new raised = record {
         cellwise = cell-at;
@@ -168,6 +179,7 @@ module _ (mark : Place → Mark) (m : Model) (cells : List Masked) (numbers : Li
             ∙ (sym (linked-more mark m d (places_before m (place_of t r c)) (place_of t r c))
             ∙ ap (λ ps. length (linked_among mark m d ps)) (sym (before-cell m t r c))));
         sixteen = raised.0 ∙ drawn.sixteen;
+        rest = λ u s k a b e. get_or-set_other cells (cell_index t r c) (cell_index u s k) x _ (unused-apart u s k a b e) ∙ drawn.rest u s k a b e;
       }
 
   -- the end of a row, of a table
@@ -176,6 +188,7 @@ module _ (mark : Place → Mark) (m : Model) (cells : List Masked) (numbers : Li
     cellwise = λ q b. drawn.cellwise q (b.0, b.1, step_row (length (rows_of m q.table)) q.table q.column q.row t r 0 (length (columns_of m t)) b.0 (λ e. subst (λ u. q.column < length (columns_of m u)) e b.1) b.2);
     counted = λ d a b. drawn.counted d a b ∙ ap (λ ps. length (linked_among mark m d ps)) (sym (before-row m t r));
     sixteen = drawn.sixteen;
+    rest = drawn.rest;
   }
 
   pub drawn-table : (t : ℕ) → Drawn mark m (place_of t (length (rows_of m t)) 0) cells numbers → Drawn mark m (place_of (t + 1) 0 0) cells numbers
@@ -185,6 +198,7 @@ module _ (mark : Place → Mark) (m : Model) (cells : List Masked) (numbers : Li
         drawn.cellwise q (s.0, b.1, within q.table q.row q.column t s.0 s.1);
     counted = λ d a b. drawn.counted d a b ∙ ap (λ ps. length (linked_among mark m d ps)) (sym (before-table m t));
     sixteen = drawn.sixteen;
+    rest = drawn.rest;
   }
     where
       within : (u s k t : ℕ) → u ≤ t → s < length (rows_of m u) → s < cond (ltb u t) (length (rows_of m u)) (cond (ltb k 0) (length (rows_of m t) + 1) (length (rows_of m t)))
@@ -195,11 +209,12 @@ module _ (mark : Place → Mark) (m : Model) (cells : List Masked) (numbers : Li
           (cases_eq u t)
 
   -- nothing is drawn yet
-  pub drawn-none : length numbers ≡ 16 → ((d : ℕ) → get_or numbers d 0 ≡ 0) → Drawn mark m (place_of 0 0 0) cells numbers
-  drawn-none size zeros = record {
+  pub drawn-none : length numbers ≡ 16 → ((d : ℕ) → get_or numbers d 0 ≡ 0) → RestIsZero m cells → Drawn mark m (place_of 0 0 0) cells numbers
+  drawn-none size zeros rest = record {
     cellwise = λ q b. absurd (nothing (length (rows_of m q.table)) q.table q.column q.row b.2);
     counted = λ d a b. zeros d ∙ (sym (linked-none mark m d) ∙ ap (λ ps. length (linked_among mark m d ps)) (sym (before-none m)));
     sixteen = size;
+    rest = rest;
   }
     where
       nothing : (n u k s : ℕ) → s < cond (ltb u 0) n (cond (ltb k 0) 1 0) → ⊥
@@ -318,6 +333,15 @@ module _ (m : Model) where
       ∙ (ap (table_in v.cells t (length (columns_of m t))) (sized t a).0
       ∙ tabled-same (row_in v.cells t (length (columns_of m t))) (λ r. tabled (λ c. seen mark m (place_of t r c)) (length (columns_of m t))) (length (rows_of m t)) []
       (λ r b. tabled-same (λ c. masked_of (masked_at v.cells t r c)) (λ c. seen mark m (place_of t r c)) (length (columns_of m t)) (masked_of (Value (Number 0))) (λ c d. all t r c a b d))))
+
+-- nothing stands where the view has no cell
+pub unused-zero : (m : Model) (v : View) → RestIsZero m v.cells → Sized m 4 v → UnusedAreZero v
+unused-zero m v rest sized t r c a b e =
+    rest t r c a b
+    (⊎_elim
+    (λ (h : count_in v t ≤ r). inl (subst (λ n. n ≤ r) (sized t a).0 h))
+    (λ (h : width_in v t ≤ c). inr (subst (λ n. n ≤ c) (sized t a).1 h))
+    e)
 
 pub widths-are : (b : Book) (v : View) → Sized (book_model b) 4 v → (t : ℕ) → width_in v t ≡ length (columns_of (book_model b) t)
 widths-are b v sized t =

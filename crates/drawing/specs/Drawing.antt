@@ -8,6 +8,7 @@ use Rattle.semantics.specs.Lists.{tabled}
 use Rattle.semantics.specs.Marks.{is_mark}
 use Rattle.semantics.specs.Values.{Value, same_value}
 use Rattle.semantics.specs.Views.{Place, place_of, content, domain_of, seen, masked}
+use Rattle.cells.specs.declared.cell.Cell.TheVariants.{Number}
 use Rattle.view.specs.declared.masked.Masked.{Masked}
 use Rattle.view.specs.declared.masked.Masked.TheVariants as code
 use Rattle.view.specs.Views.{masked_of, masked_at, cell_of}
@@ -79,11 +80,19 @@ HasNumber numbers (code.Value x) = ⊤
 HasNumber numbers (code.Variable t r c) = ⊤
 HasNumber numbers (code.Pseudonym d n) = (d < 16) × (slice_index numbers d < 8192)
 
--- The view is drawn up to a place: every cell before it is as it is seen, and the linked cells of each domain are counted.
+-- Every cell that no row of the book uses is the number 0.
+abbrev pub RestIsZero : Model → List Masked → Type 0
+RestIsZero m cells =
+    (t r c : ℕ) → t < 4 → c < 8 → (length (rows_of m t) ≤ r) ⊎ (length (columns_of m t) ≤ c)
+    → masked_at cells t r c ≡ code.Value (Number 0)
+
+-- The view is drawn up to a place: every cell before it is as it is seen, the linked cells of each domain are counted, and
+-- nothing stands where the book has no cell.
 pub record Drawn (mark : Place → Mark) (m : Model) (p : Place) (cells : List Masked) (numbers : List ℕ) : Type 0 where
   pub cellwise : (q : Place) → Before m p q → masked_of (cell_of cells q) ≡ seen mark m q
   pub counted : (d : ℕ) → 1 ≤ d → d < 16 → slice_index numbers d ≡ length (linked_among mark m d (places_before m p))
   pub sixteen : length numbers ≡ 16
+  pub rest : RestIsZero m cells
 
 -- The whole view is drawn.
 abbrev pub AllDrawn : (Place → Mark) → Model → List Masked → Type 0

@@ -5,7 +5,7 @@ ghost use Rattle.semantics.specs.Views as semantics;
 ghost use Rattle.cells.specs.Cells.{cell_value};
 ghost use Rattle.book.specs.Books.{book_model};
 ghost use Rattle.view.specs.Positions.{place_at};
-ghost use Rattle.view.specs.Views.{view_tables, width_in, CellPut};
+ghost use Rattle.view.specs.Views.{view_tables, width_in, CellPut, UnusedAreZero};
 ghost use Rattle.drawing.specs.Drawing.{HasNumber, counted};
 ghost use Rattle.drawing.specs.Scenes.{DrawnTo, WholeDrawn, Sized};
 
@@ -74,6 +74,7 @@ impl<P: Policy> Scene<'_, P> {
         ensures { WholeDrawn P.Policy.meaning self.now view.new }
     {
         let mut numbers = [0; 16];
+        view.clear();
         for table in 0..4 {
             self.draw_table(view, &mut numbers, table);
         }
@@ -90,10 +91,12 @@ fn measure(view: &mut View, book: &Book<'_>)
     }
 }
 
-/// Draws what a broker sees of a book under a policy, which is asked once for each cell.
+/// Draws what a broker sees of a book under a policy, which is asked once for each cell. Nothing that
+/// stood in the view before is left in it.
 pub fn draw<P: Policy>(view: &mut View, book: &Book<'_>, policy: &P, broker: u16)
     ensures seen { view_tables view.new ≡ semantics.view (P.Policy.meaning policy.now) broker (book_model book.now) }
     ensures wide { (t : ℕ) → width_in view.new t ≡ length (columns_of (book_model book.now) t) }
+    ensures rest { UnusedAreZero view.new }
 {
     let scene = Scene {
         book,

@@ -47,7 +47,6 @@ impl Tree<'_> {
     }
 
     /// Record `number` and, below it, its parts.
-    // By numbers of records and no boxes, as a plan has them: there is no heap below the programs.
     fn below(&self, number: usize, depth: usize) -> anyhow::Result<()>
         requires { number + depth ≤ 15 }
     {

@@ -41,7 +41,6 @@ fn prefix(digits: &[u8]) -> &str {
 }
 
 /// A comparison, or the word that joins or negates.
-// A match: a term is a closed enum, and each case has words of its own.
 impl fmt::Display for InWords<Term<'_>> {
     fn fmt<W: fmt::Write>(&self, f: &mut fmt::Formatter<W>) -> fmt::Result {
         match self.0 {
@@ -114,7 +113,6 @@ enum Words {
 }
 
 /// The conditions that are no part of another so far.
-// A stack of Strings: parts stand before what joins them, which is said between them.
 #[derive(Drop)]
 struct Stack {
     words: Vec<Words>,
@@ -132,7 +130,6 @@ impl Stack {
     }
 
     /// What a condition record makes of the conditions before it.
-    // A match on the term: how many conditions it takes is known of each, and no caller adds a case.
     fn term(&mut self, said: Term<'_>) -> Result<Words, AllocError> {
         let heap = *self.words.allocator();
         let name = InWords(said);

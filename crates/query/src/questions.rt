@@ -19,19 +19,23 @@ pub fn check(query: &[u8], book: &Book) -> Result<Plan, Refusal>
         return Err(Refusal::QueryLength);
     }
     let mut plan = Plan::empty();
-    let mut rest = query;
-    while !rest.is_empty() {
-        let place = plan.place();
+    let mut reader = Reader {
+        rest: query,
+        place: 0,
+    };
+    while !reader.rest.is_empty() {
         if plan.is_full() {
-            return Err(Refusal::TooManyRecords(place));
+            return Err(Refusal::TooManyRecords(reader.place));
         }
-        let at = query.len() - rest.len();
-        let reader = Reader { rest, place };
+        let at = query.len() - reader.rest.len();
         reader.check()?;
-        let (record, behind) = reader.read();
+        let (record, rest) = reader.read();
         let step = plan.grow(record, book)?;
         plan.push(at, step);
-        rest = behind;
+        reader = Reader {
+            rest,
+            place: plan.place(),
+        };
     }
     if !plan.is_single() {
         return Err(Refusal::NotOneRelation(plan.place()));

@@ -11,7 +11,6 @@ pub enum Kind {
 }
 
 /// A column of a table: what its cells hold, and the domain that they may be linked in, 0 for none.
-// No Option: 0 is a number that a column is declared with, and the rules call it no domain.
 #[derive(Clone, Copy, PartialEq, Eq, Debug)]
 pub struct Column {
     pub kind: Kind,

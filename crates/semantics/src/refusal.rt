@@ -59,7 +59,6 @@ pub enum Refusal {
 
 impl Refusal {
     /// The number of the refusal.
-    // No From: a number alone is less than the refusal, whose place it lacks.
     pub fn number(self) -> u8
         ensures { result ≡ refusal_number self }
     {
@@ -92,7 +91,6 @@ impl Refusal {
     }
 
     /// Where the fault is: a cell, a record or a count of records; 0 where the refusal names no place.
-    // No Option: the record of a refusal holds 0 there, as the rules say.
     pub fn place(self) -> u8
         ensures { result ≡ refusal_place self }
     {

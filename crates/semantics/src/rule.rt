@@ -6,7 +6,6 @@ pub enum Sign {
 }
 
 /// When a rule holds for a row: always, or where a column of the row holds a number.
-// No Option: that a test always holds is a test like the other, and the definitions name both.
 #[derive(Clone, Copy, PartialEq, Eq, Debug)]
 pub enum Test {
     Always,
@@ -23,8 +22,8 @@ pub struct Rule {
     pub test: Test,
 }
 
-/// What a customer has consented to: the columns that are shown, and those that are linked.
-// Two sets and no list of marks: that is how a customer consents, and which set wins is a rule.
+/// What a customer has consented to: the columns that are shown, and those that are linked. One that is
+/// in both is shown.
 #[derive(Clone, Copy, PartialEq, Eq, Debug)]
 pub struct Consent {
     pub key: u32,

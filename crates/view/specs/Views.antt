@@ -1,5 +1,5 @@
 -- The view that a structure of the code stands for.
-use Rattle.std.specs.Prelude.{◌≡◌, ℕ, ◌<◌, ◌≤◌, List, [], map, length, Some, None, Option, slice_index_or, slice_set}
+use Rattle.std.specs.Prelude.{◌≡◌, ℕ, ◌<◌, ◌≤◌, ◌⊎◌, List, [], map, length, Some, None, Option, slice_index_or, slice_set}
 use Rattle.std.specs.Borrow.{Bor}
 use Rattle.semantics.specs.Lists.{tabled}
 use Rattle.semantics.specs.Views as semantics
@@ -48,6 +48,11 @@ count_in v t = (size_at v.sizes t).rows
 
 abbrev pub width_in : View → ℕ → ℕ
 width_in v t = (size_at v.sizes t).columns
+
+-- Every cell that no row of the view uses is the number 0.
+abbrev pub UnusedAreZero : View → Type 0
+UnusedAreZero v =
+    (t r c : ℕ) → t < 4 → c < 8 → (count_in v t ≤ r) ⊎ (width_in v t ≤ c) → masked_at v.cells t r c ≡ Value (Number 0)
 
 -- The cells of a row, or none where the table has no such row.
 abbrev pub RowSeen : List (List (List semantics.Masked)) → ℕ → ℕ → Option (Bor (List Masked)) → Type 0

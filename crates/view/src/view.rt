@@ -1,4 +1,4 @@
-ghost use Rattle.std.specs.Prelude.{◌≡◌, ◌<◌, true, [], ◌∷◌, map, length, slice_index_or, slice_set};
+ghost use Rattle.std.specs.Prelude.{◌≡◌, ◌<◌, true, [], ◌∷◌, map, length, replicate, slice_index_or, slice_set};
 ghost use Rattle.semantics.specs.Lists.{every};
 ghost use Rattle.view.specs.Sizes.{is_size};
 
@@ -20,6 +20,8 @@ pub struct View {
 
 impl View {
     ghost use Rattle.book.specs.Walks.{rows_left};
+    ghost use Rattle.cells.specs.declared.cell.Cell.TheVariants.{Number};
+    ghost use Rattle.view.specs.declared.masked.Masked.TheVariants.{Value};
     ghost use Rattle.view.specs.Positions.{place_at};
     ghost use Rattle.view.specs.Sizes.{size_within};
     ghost use Rattle.view.specs.Views.{masked_of, cell_of, view_tables, width_in, CellPut, RowSeen};
@@ -84,6 +86,14 @@ impl View {
         ensures { result ≡ cell_of self.now.cells (place_at at) }
     {
         self.cells[at.index()]
+    }
+
+    /// Leaves the number 0 in every cell, of a row of the view or not.
+    pub fn clear(&mut self)
+        ensures cells { self.new.cells ≡ replicate 8192 (Value (Number 0)) }
+        ensures sizes { self.new.sizes ≡ self.old.sizes }
+    {
+        self.cells.fill(Masked::ZERO);
     }
 
     /// Writes the cell at a position, of a row of the view or not.
