@@ -22,7 +22,7 @@ pub high-few : (limit : ℕ) (columns : List (List Column)) (v : View) (q : Tree
     → i < length (nodes q) → Sound limit new → Settled columns v q High i cells old new b → length (high (view_tables v) (relation (nodes q) i)) ≤ limit
 unfolding answer_of
 high-few limit columns v q i cells old new b h sound s =
-    let e = ap length (s.held.holds High i b h s.here) in
+    let e = ap length (s.agrees.holds High i b h s.here) in
     let l = length_rows cells b in
     omega (arith, sound.few (region High i) b s.here)
 

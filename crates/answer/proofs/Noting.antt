@@ -38,8 +38,8 @@ module _ (task : Task) {columns : List (List Column)} {q : Tree} (over : Over co
   -- When the parts of an answer have been found, what was found before still is.
   record PartsFound (old now : Memo) : Type 0 where
     limit_kept : now.output.limit ≡ old.output.limit
-    held : NotesHold columns task.view.now q now.output.work.now now.found
-    grown : StaysNoted old.found now.found
+    agrees : NotesHold columns task.view.now q now.output.work.now now.found
+    stays : StaysNoted old.found now.found
 
   noting : (bound : Bound) (i : ℕ) → i < 15 → i < length (nodes q) → (old mid new : Memo) (r : Option Block) → PartsFound old mid → (w : ℕ) (made : (Block → List (List semantics.Masked)) → List (List semantics.Masked)) (whole : Tree) → relation (nodes q) i ≡ whole
       → w ≡ length (kinds_of columns whole) → made (rows_there mid.output) ≡ answer_of bound (view_tables task.view.now) whole → Notes bound i w made mid new r
@@ -52,18 +52,18 @@ module _ (task : Task) {columns : List (List Column)} {q : Tree} (over : Over co
           → Makes mid.output.limit (region bound i * mid.output.limit) (length (kinds_of columns (relation (nodes q) i))) (answer_of bound (view_tables task.view.now) (relation (nodes q) i)) mid.output.work.now new.output.work.now r
           → SettledOr old.output.limit columns task.view.now q bound i new.output.work.now old.found new.found r
       go (Some b) f m =
-          let s = settle mid.output.limit columns task.view.now q bound i mid.output.work.now new.output.work.now mid.found mid.sound (omega (arith, region-low bound i low, mid.sound.thirty)) b p.held m in
-          subst (λ l. Settled columns task.view.now q bound i new.output.work.now old.found l b) (sym f) (record { held = s.held; grown = λ k there. s.grown k (p.grown k there); here = s.here })
+          let s = settle mid.output.limit columns task.view.now q bound i mid.output.work.now new.output.work.now mid.found mid.sound (omega (arith, region-low bound i low, mid.sound.thirty)) b p.agrees m in
+          subst (λ l. Settled columns task.view.now q bound i new.output.work.now old.found l b) (sym f) (record { agrees = s.agrees; stays = λ k there. s.stays k (p.stays k there); here = s.here })
       go None f m = too_long old.output.limit columns task.view.now q bound i over.wide over.formed h (omega (arith, m.0, p.limit_kept))
 
   -- the only part, or the left one
   module _ {bound : Bound} {i j : ℕ} {old mid : Memo} {left : Block} (lies : Lies bound j old mid (Some left)) (one : Settles task bound j old mid (Some left)) (below : j < i) (h : i < length (nodes q))
-      (held : NotesHold columns task.view.now q old.output.work.now old.found) where
+      (agrees : NotesHold columns task.view.now q old.output.work.now old.found) where
     first : Settled columns task.view.now q bound j mid.output.work.now old.found mid.found left
-    first = one.each columns q over held (omega arith)
+    first = one.each columns q over agrees (omega arith)
 
     first-parts : PartsFound old mid
-    first-parts = record { limit_kept = lies.limit_kept; held = first.held; grown = first.grown }
+    first-parts = record { limit_kept = lies.limit_kept; agrees = first.agrees; stays = first.stays }
 
     first-stands : Stands columns task.view.now bound (relation (nodes q) j) mid.output.work.now left
     first-stands = stands (omega arith) first
@@ -71,10 +71,10 @@ module _ (task : Task) {columns : List (List Column)} {q : Tree} (over : Over co
     -- and the right one
     module _ {other-bound : Bound} {k : ℕ} {last : Memo} {right : Block} (lies' : Lies other-bound k mid last (Some right)) (two : Settles task other-bound k mid last (Some right)) (below' : k < i) where
       second : Settled columns task.view.now q other-bound k last.output.work.now mid.found last.found right
-      second = two.each columns q over first.held (omega arith)
+      second = two.each columns q over first.agrees (omega arith)
 
       both-parts : PartsFound old last
-      both-parts = record { limit_kept = lies'.limit_kept ∙ lies.limit_kept; held = second.held; grown = λ n there. second.grown n (first.grown n there) }
+      both-parts = record { limit_kept = lies'.limit_kept ∙ lies.limit_kept; agrees = second.agrees; stays = λ n there. second.stays n (first.stays n there) }
 
       left-stands : Stands columns task.view.now bound (relation (nodes q) j) last.output.work.now left
       left-stands = still_stands (omega arith) lies'.limit_kept mid.sound last.sound first second
@@ -87,14 +87,14 @@ pub table-answers : {task : Task} {bound : Bound} {i t : ℕ} {old new : Memo} {
     → NotesTable bound i task.view.now t old new r
     → Settles task bound i old new r
 table-answers {task} {bound} {i} {t} {old} {new} {r} low reads m = record {
-  each = λ columns q over held h.
+  each = λ columns q over agrees h.
       let is = reads columns (nodes q) over.planned h in
       let wide = over.wide t ∙ sym (length-map (get_or columns t []) (λ column. column.kind)) in
-      noting task over bound i low h old old new r (record { limit_kept = refl; held = held; grown = λ k there. there })
+      noting task over bound i low h old old new r (record { limit_kept = refl; agrees = agrees; stays = λ k there. there })
       (width_in task.view.now t) (λ rows. listed task.view.now t) (queries.table t) is wide (answer-table (view_tables task.view.now) bound t)
       (m (λ b there. (
-        held.wide (other bound) i b h there ∙ ap (λ n. length (kinds_of columns n)) is ∙ sym wide,
-        held.holds (other bound) i b h there ∙ ap (answer_of (other bound) (view_tables task.view.now)) is ∙ sym (answer-table (view_tables task.view.now) (other bound) t),
+        agrees.wide (other bound) i b h there ∙ ap (λ n. length (kinds_of columns n)) is ∙ sym wide,
+        agrees.holds (other bound) i b h there ∙ ap (answer_of (other bound) (view_tables task.view.now)) is ∙ sym (answer-table (view_tables task.view.now) (other bound) t),
       )));
 }
 
@@ -102,21 +102,21 @@ module _ {task : Task} {bound : Bound} {i j : ℕ} {old mid new : Memo} {left : 
   pub select-answers : (condition : Bor (List ℕ)) → j < i → Reads task i (Select j condition)
       → NotesSelect bound i left condition.now mid new r → Settles task bound i old new r
   select-answers condition below reads m = record {
-    each = λ columns q over held h.
+    each = λ columns q over agrees h.
         let is = reads columns (nodes q) over.planned h in
         let x = relation (nodes q) j in
-        let a = first-stands task over lies one below h held in
-        noting task over bound i low h old mid new r (first-parts task over lies one below h held) left.width (λ rows. selected bound is.0 (rows left)) (queries.select is.0 x) is.2
+        let a = first-stands task over lies one below h agrees in
+        noting task over bound i low h old mid new r (first-parts task over lies one below h agrees) left.width (λ rows. selected bound is.0 (rows left)) (queries.select is.0 x) is.2
         a.wide (ap (selected bound is.0) a.holds ∙ answer-select (view_tables task.view.now) bound is.0 x) (m (WrongForm i) is.0 is.1);
   }
 
   pub project-answers : (cs : Bor (List ℕ)) → j < i → Reads task i (Project j cs) → Notes bound i (length cs.now) (λ rows. projected cs.now (rows left)) mid new r → Settles task bound i old new r
   project-answers cs below reads m = record {
-    each = λ columns q over held h.
+    each = λ columns q over agrees h.
         let is = reads columns (nodes q) over.planned h in
         let x = relation (nodes q) j in
-        let a = first-stands task over lies one below h held in
-        noting task over bound i low h old mid new r (first-parts task over lies one below h held) (length cs.now) (λ rows. projected cs.now (rows left)) (queries.project cs.now x) is
+        let a = first-stands task over lies one below h agrees in
+        noting task over bound i low h old mid new r (first-parts task over lies one below h agrees) (length cs.now) (λ rows. projected cs.now (rows left)) (queries.project cs.now x) is
         (sym (length-map cs.now (kind_at (kinds_of columns x)))) (ap (projected cs.now) a.holds ∙ answer-project (view_tables task.view.now) bound cs.now x) m;
   }
 
@@ -125,14 +125,14 @@ module _ {task : Task} {bound bound' : Bound} {i j k : ℕ} {old mid last new : 
   pub product-answers : bound' ≡ bound → Reads task i (Product j k)
       → NotesProduct bound i left right last new r → Settles task bound i old new r
   product-answers same reads m = record {
-    each = λ columns q over held h.
+    each = λ columns q over agrees h.
         let is = reads columns (nodes q) over.planned h in
         let x = relation (nodes q) j in
         let y = relation (nodes q) k in
-        let a = left-stands task over lies one below.0 h held lies' two below.1 in
-        let b = right-stands task over lies one below.0 h held lies' two below.1 in
+        let a = left-stands task over lies one below.0 h agrees lies' two below.1 in
+        let b = right-stands task over lies one below.0 h agrees lies' two below.1 in
         let narrow = product_narrow columns x y (ap (proper columns) (sym is) ∙ relation-proper columns q i over.formed h) in
-        noting task over bound i low h old last new r (both-parts task over lies one below.0 h held lies' two below.1) (left.width + right.width) (λ rows. paired (rows left) (rows right)) (queries.product x y) is
+        noting task over bound i low h old last new r (both-parts task over lies one below.0 h agrees lies' two below.1) (left.width + right.width) (λ rows. paired (rows left) (rows right)) (queries.product x y) is
         (ap₂ ◌+◌ a.wide b.wide ∙ sym (length-append (kinds_of columns x) (kinds_of columns y)))
         (ap₂ paired a.holds (b.holds ∙ ap (λ d. answer_of d (view_tables task.view.now) y) same) ∙ answer-product (view_tables task.view.now) bound x y)
         (m (omega (arith, a.wide, b.wide)));
@@ -141,14 +141,14 @@ module _ {task : Task} {bound bound' : Bound} {i j k : ℕ} {old mid last new : 
   pub union-answers : bound' ≡ bound → Reads task i (Union j k)
       → NotesUnion bound i left right last new r → Settles task bound i old new r
   union-answers same reads m = record {
-    each = λ columns q over held h.
+    each = λ columns q over agrees h.
         let is = reads columns (nodes q) over.planned h in
         let x = relation (nodes q) j in
         let y = relation (nodes q) k in
-        let a = left-stands task over lies one below.0 h held lies' two below.1 in
-        let b = right-stands task over lies one below.0 h held lies' two below.1 in
+        let a = left-stands task over lies one below.0 h agrees lies' two below.1 in
+        let b = right-stands task over lies one below.0 h agrees lies' two below.1 in
         let fitted = union-fitted columns x y (ap (proper columns) (sym is) ∙ relation-proper columns q i over.formed h) in
-        noting task over bound i low h old last new r (both-parts task over lies one below.0 h held lies' two below.1) left.width (λ rows. merged (rows left) (rows right)) (queries.union x y) is
+        noting task over bound i low h old last new r (both-parts task over lies one below.0 h agrees lies' two below.1) left.width (λ rows. merged (rows left) (rows right)) (queries.union x y) is
         a.wide (ap₂ merged a.holds (b.holds ∙ ap (λ d. answer_of d (view_tables task.view.now) y) same) ∙ answer-union (view_tables task.view.now) bound x y)
         (m (b.wide ∙ fitted ∙ sym a.wide));
   }
@@ -156,12 +156,12 @@ module _ {task : Task} {bound bound' : Bound} {i j k : ℕ} {old mid last new : 
   pub difference-answers : bound' ≡ other bound → Reads task i (Difference j k)
       → Notes bound i left.width (λ rows. subtracted bound (rows left) (rows right)) last new r → Settles task bound i old new r
   difference-answers turned reads m = record {
-    each = λ columns q over held h.
+    each = λ columns q over agrees h.
         let is = reads columns (nodes q) over.planned h in
         let x = relation (nodes q) j in
         let y = relation (nodes q) k in
-        let a = left-stands task over lies one below.0 h held lies' two below.1 in
-        let b = right-stands task over lies one below.0 h held lies' two below.1 in
-        noting task over bound i low h old last new r (both-parts task over lies one below.0 h held lies' two below.1) left.width (λ rows. subtracted bound (rows left) (rows right)) (queries.difference x y) is
+        let a = left-stands task over lies one below.0 h agrees lies' two below.1 in
+        let b = right-stands task over lies one below.0 h agrees lies' two below.1 in
+        noting task over bound i low h old last new r (both-parts task over lies one below.0 h agrees lies' two below.1) left.width (λ rows. subtracted bound (rows left) (rows right)) (queries.difference x y) is
         a.wide (ap₂ (subtracted bound) a.holds (b.holds ∙ ap (λ d. answer_of d (view_tables task.view.now) y) turned) ∙ answer-difference (view_tables task.view.now) bound x y) m;
   }

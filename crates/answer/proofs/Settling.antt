@@ -43,13 +43,13 @@ module _ (limit : ℕ) (columns : List (List Column)) (v : View) (q : Tree) (bou
   pub settle : (b : Block) → NotesHold columns v q old memo
       → Makes limit (region bound i * limit) (length (kinds_of columns (relation (nodes q) i))) (answer_of bound (view_tables v) (relation (nodes q) i)) old new (Some b)
       → Settled columns v q bound i new memo (set memo (region bound i) (Some b)) b
-  settle b held m = record {
-    held = record {
+  settle b agrees m = record {
+    agrees = record {
       wide = λ c j x l e. ⊎_elim
           (λ (h : (region c j ≡ region bound i) × (x ≡ b)).
           let p = region_same c bound j i h.0 in
           ap (λ (y : Block). y.width) h.1 ∙ m.0.wide ∙ ap (λ n. length (kinds_of columns (relation (nodes q) n))) (sym p.1))
-          (λ (h : (region c j ≡ region bound i → ⊥) × (get_or memo (region c j) None ≡ Some x)). held.wide c j x l h.1)
+          (λ (h : (region c j ≡ region bound i → ⊥) × (get_or memo (region c j) None ≡ Some x)). agrees.wide c j x l h.1)
           (after-note memo (region bound i) b low (region c j) x e);
       holds = λ c j x l e. ⊎_elim
           (λ (h : (region c j ≡ region bound i) × (x ≡ b)).
@@ -57,10 +57,10 @@ module _ (limit : ℕ) (columns : List (List Column)) (v : View) (q : Tree) (bou
           ap (block_rows new) h.1 ∙ m.1 ∙ ap (λ d. answer_of d (view_tables v) (relation (nodes q) i)) (sym p.0) ∙ ap (λ n. answer_of c (view_tables v) (relation (nodes q) n)) (sym p.1))
           (λ (h : (region c j ≡ region bound i → ⊥) × (get_or memo (region c j) None ≡ Some x)).
           block_apart (region bound i * limit) limit old new x m.0.untouched (regions_apart limit (region c j) (region bound i) x h.0 (sound.begins (region c j) x h.1) (sound.few (region c j) x h.1))
-          ∙ held.holds c j x l h.1)
+          ∙ agrees.holds c j x l h.1)
           (after-note memo (region bound i) b low (region c j) x e);
     };
-    grown = grown-more memo (region bound i) b low;
+    stays = grown-more memo (region bound i) b low;
     here = get_or-set_same memo (region bound i) (Some b) None low;
   }
 

@@ -21,7 +21,7 @@ pub record Stands (columns : List (List Column)) (v : View) (bound : Bound) (q :
 -- that of a part which has just been found
 pub stands : {columns : List (List Column)} {v : View} {q : Tree} {bound : Bound} {i : ℕ} {cells : List Masked} {old new : List (Option Block)} {b : Block}
     → i < length (nodes q) → Settled columns v q bound i cells old new b → Stands columns v bound (relation (nodes q) i) cells b
-stands {columns} {v} {q} {bound} {i} {cells} {old} {new} {b} h s = record { wide = s.held.wide bound i b h s.here; holds = s.held.holds bound i b h s.here }
+stands {columns} {v} {q} {bound} {i} {cells} {old} {new} {b} h s = record { wide = s.agrees.wide bound i b h s.here; holds = s.agrees.holds bound i b h s.here }
 
 block_same : (cells : List Masked) (b c : Block) → b.first ≡ c.first → b.count ≡ c.count → b.width ≡ c.width → block_rows cells b ≡ block_rows cells c
 unfolding block_rows
@@ -32,10 +32,10 @@ pub still_stands : {columns : List (List Column)} {v : View} {q : Tree} {bound b
     → i < length (nodes q) → limit' ≡ limit → Sound limit new → Sound limit' last → Settled columns v q bound i cells old new b → Settled columns v q bound' j cells' new last c
     → Stands columns v bound (relation (nodes q) i) cells' b
 still_stands {columns} {v} {q} {bound} {bound'} {i} {j} {limit} {limit'} {cells} {cells'} {old} {new} {last} {b} {c} h l sound sound' one two =
-    let here = two.grown (region bound i) (b, one.here) in
+    let here = two.stays (region bound i) (b, one.here) in
     let a = stands h one in
-    let wide = two.held.wide bound i here.0 h here.1 in
-    let holds = two.held.holds bound i here.0 h here.1 in
+    let wide = two.agrees.wide bound i here.0 h here.1 in
+    let holds = two.agrees.holds bound i here.0 h here.1 in
     let e : b.first ≡ here.0.first = sound.begins (region bound i) b one.here ∙ ap (λ n. region bound i * n) (sym l) ∙ sym (sound'.begins (region bound i) here.0 here.1) in
     let f : b.count ≡ here.0.count = sym (length_rows cells b) ∙ ap length (a.holds ∙ sym holds) ∙ length_rows cells' here.0 in
     record { wide = a.wide; holds = block_same cells' b here.0 e f (a.wide ∙ sym wide) ∙ holds }

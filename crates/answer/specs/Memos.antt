@@ -46,8 +46,8 @@ StaysNoted old new = (k : ℕ) → There old k → There new k
 
 -- The answer of relation number `i` has been found, and the block is its.
 pub record Settled (columns : List (List Column)) (view : View) (q : Tree) (bound : Bound) (i : ℕ) (cells : List Masked) (old new : List (Option Block)) (b : Block) : Type 0 where
-  pub held : NotesHold columns view q cells new
-  pub grown : StaysNoted old new
+  pub agrees : NotesHold columns view q cells new
+  pub stays : StaysNoted old new
   pub here : get_or new (region bound i) None ≡ Some b
 
 -- Some relation up to number `i` has a high answer of more than `limit` rows.

@@ -5,6 +5,7 @@ use Rattle.semantics.specs.Views.{domain_of}
 use Rattle.book.specs.Books.{book_model}
 use Rattle.view.specs.declared.masked.Masked.{Masked}
 use Rattle.view.specs.Positions.{place_at}
+use Rattle.view.specs.Views.{view_cells}
 use Rattle.drawing.specs.declared.mask.Masking.{Masking}
 use Rattle.drawing.specs.Drawing.{Masks}
 
@@ -14,4 +15,4 @@ next_number s = slice_index s.numbers.now (domain_of (book_model s.book.now) (pl
 
 -- The cell is masked so under this mark.
 abbrev pub MaskedBy : Masking → Mark → Masked → Type 0
-MaskedBy s mark x = Masks s.view.now.cells (book_model s.book.now) mark (place_at s.at) (next_number s) x
+MaskedBy s mark x = Masks (view_cells s.view.now) (book_model s.book.now) mark (place_at s.at) (next_number s) x

@@ -4,13 +4,14 @@ use Rattle.semantics.specs.Books.{columns_of}
 use Rattle.semantics.specs.Views.{Place, place_of, domain_of}
 use Rattle.cells.specs.Cells.{cell_value}
 use Rattle.book.specs.Books.{book_model}
+use Rattle.view.specs.Views.{view_cells}
 use Rattle.drawing.specs.declared.find.Search.{Search}
 use Rattle.view.specs.Positions.{place_at}
 use Rattle.drawing.specs.Drawing.{rows_before, Found, InDomain}
 
 -- The search ends so among these cells.
 abbrev pub Finds : Search → (Place → Type 0) → Option ℕ → Type 0
-Finds s Among found = Found s.view.now.cells (book_model s.book.now) (cell_value s.value) Among found
+Finds s Among found = Found (view_cells s.view.now) (book_model s.book.now) (cell_value s.value) Among found
 
 -- The cells that are searched: those before the position in the columns of the domain.
 abbrev pub Searched : Search → Place → Type 0

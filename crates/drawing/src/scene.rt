@@ -5,7 +5,7 @@ ghost use Rattle.semantics.specs.Views as semantics;
 ghost use Rattle.cells.specs.Cells.{cell_value};
 ghost use Rattle.book.specs.Books.{book_model};
 ghost use Rattle.view.specs.Positions.{place_at};
-ghost use Rattle.view.specs.Views.{view_tables, width_in, CellPut, UnusedAreZero};
+ghost use Rattle.view.specs.Views.{view_cells, view_tables, width_in, CellPut, UnusedAreZero};
 ghost use Rattle.drawing.specs.Drawing.{HasNumber, counted};
 ghost use Rattle.drawing.specs.Scenes.{DrawnTo, WholeDrawn, Sized};
 
@@ -19,7 +19,7 @@ use view::{Masked, Position, View};
 /// linked cells of each domain are drawn.
 fn put(view: &mut View, numbers: &mut [u16; 16], at: Position, masked: Masked)
     requires { HasNumber numbers.old masked }
-    ensures cell { CellPut (place_at at) masked view.old.cells view.new.cells }
+    ensures cell { CellPut (place_at at) masked (view_cells view.old) (view_cells view.new) }
     ensures counted { numbers.new ≡ counted numbers.old masked }
 {
     view.put(at, masked);
@@ -83,7 +83,7 @@ impl<P: Policy> Scene<'_, P> {
 
 /// Gives each table of a view the size that it has in a book.
 fn measure(view: &mut View, book: &Book<'_>)
-    ensures cells { view.new.cells ≡ view.old.cells }
+    ensures cells { view_cells view.new ≡ view_cells view.old }
     ensures sized { Sized (book_model book.now) 4 view.new }
 {
     for table in 0..4 {

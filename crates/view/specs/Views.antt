@@ -42,6 +42,13 @@ tables_in cells sizes = tabled (λ t. table_in cells t (size_at sizes t).columns
 abbrev pub view_tables : View → List (List (List semantics.Masked))
 view_tables v = tables_in v.cells v.sizes
 
+-- All cells of a view, used by a row or not, and the sizes of its tables.
+abbrev pub view_cells : View → List Masked
+view_cells v = v.cells
+
+abbrev pub view_sizes : View → List Size
+view_sizes v = v.sizes
+
 -- How many rows and columns a table of the view has.
 abbrev pub count_in : View → ℕ → ℕ
 count_in v t = (size_at v.sizes t).rows
@@ -52,7 +59,7 @@ width_in v t = (size_at v.sizes t).columns
 -- Every cell that no row of the view uses is the number 0.
 abbrev pub UnusedAreZero : View → Type 0
 UnusedAreZero v =
-    (t r c : ℕ) → t < 4 → c < 8 → (count_in v t ≤ r) ⊎ (width_in v t ≤ c) → masked_at v.cells t r c ≡ Value (Number 0)
+    (t r c : ℕ) → t < 4 → c < 8 → (count_in v t ≤ r) ⊎ (width_in v t ≤ c) → masked_at (view_cells v) t r c ≡ Value (Number 0)
 
 -- The cells of a row, or none where the table has no such row.
 abbrev pub RowSeen : List (List (List semantics.Masked)) → ℕ → ℕ → Option (Bor (List Masked)) → Type 0

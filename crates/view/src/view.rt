@@ -24,7 +24,7 @@ impl View {
     ghost use Rattle.view.specs.declared.masked.Masked.TheVariants.{Value};
     ghost use Rattle.view.specs.Positions.{place_at};
     ghost use Rattle.view.specs.Sizes.{size_within};
-    ghost use Rattle.view.specs.Views.{masked_of, cell_of, view_tables, width_in, CellPut, RowSeen};
+    ghost use Rattle.view.specs.Views.{masked_of, cell_of, view_cells, view_sizes, view_tables, width_in, CellPut, RowSeen};
 
     /// The view of nothing: four tables without rows.
     pub fn new() -> View
@@ -83,31 +83,31 @@ impl View {
 
     /// The cell at a position, of a row of the view or not.
     pub fn cell(&self, at: Position) -> Masked
-        ensures { result ≡ cell_of self.now.cells (place_at at) }
+        ensures { result ≡ cell_of (view_cells self.now) (place_at at) }
     {
         self.cells[at.index()]
     }
 
     /// Leaves the number 0 in every cell, of a row of the view or not.
     pub fn clear(&mut self)
-        ensures cells { self.new.cells ≡ replicate 8192 (Value (Number 0)) }
-        ensures sizes { self.new.sizes ≡ self.old.sizes }
+        ensures cells { view_cells self.new ≡ replicate 8192 (Value (Number 0)) }
+        ensures sizes { view_sizes self.new ≡ view_sizes self.old }
     {
         self.cells.fill(Masked::ZERO);
     }
 
     /// Writes the cell at a position, of a row of the view or not.
     pub fn put(&mut self, at: Position, masked: Masked)
-        ensures cell { CellPut (place_at at) masked self.old.cells self.new.cells }
-        ensures sizes { self.new.sizes ≡ self.old.sizes }
+        ensures cell { CellPut (place_at at) masked (view_cells self.old) (view_cells self.new) }
+        ensures sizes { view_sizes self.new ≡ view_sizes self.old }
     {
         self.cells[at.index()] = masked;
     }
 
     /// Gives a table so many rows and columns, and at most 256 and 8. They hold what was put there.
     pub fn resize(&mut self, table: usize, rows: usize, columns: usize)
-        ensures sizes { self.new.sizes ≡ slice_set self.old.sizes table (size_within rows columns) }
-        ensures cells { self.new.cells ≡ self.old.cells }
+        ensures sizes { view_sizes self.new ≡ slice_set (view_sizes self.old) table (size_within rows columns) }
+        ensures cells { view_cells self.new ≡ view_cells self.old }
     {
         if table < 4 {
             self.sizes[table] = Size {

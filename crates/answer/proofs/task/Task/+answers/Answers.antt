@@ -6,7 +6,7 @@ use Rattle.answer.proofs.task.Task.+answers.Goals as goal
 
 pub low-returns-in_err-operation-clause-found : goal.low-returns-in_err-operation-clause-found
 low-returns-in_err-operation-clause-found t c =
-    record { each = λ columns q over held h. absurd (c.in_err-operation.ensures.reads columns (nodes q) over.planned h) }
+    record { each = λ columns q over agrees h. absurd (c.in_err-operation.ensures.reads columns (nodes q) over.planned h) }
 
 pub low-returns-in-Table-clause-found : goal.low-returns-in-Table-clause-found
 low-returns-in-Table-clause-found t c =
@@ -58,7 +58,7 @@ low-returns-in_ok-removed-in-Difference-clause-found t c =
 
 pub high-returns-in_err-operation-clause-found : goal.high-returns-in_err-operation-clause-found
 high-returns-in_err-operation-clause-found t c =
-    record { each = λ columns q over held h. absurd (c.in_err-operation.ensures.reads columns (nodes q) over.planned h) }
+    record { each = λ columns q over agrees h. absurd (c.in_err-operation.ensures.reads columns (nodes q) over.planned h) }
 
 pub high-returns-in-Table-clause-found : goal.high-returns-in-Table-clause-found
 high-returns-in-Table-clause-found t c =

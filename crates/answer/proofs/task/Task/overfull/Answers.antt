@@ -13,8 +13,8 @@ returns-in_err-ok_or c =
     let same = c.loop-number.invariant.0 in
     record {
       limit = c.high.ensures.lies.limit_kept ∙ same;
-      lowest = λ columns q over held.
-          let i = c.loop-number.invariant.1 columns q over held in
+      lowest = λ columns q over agrees.
+          let i = c.loop-number.invariant.1 columns q over agrees in
           let h : c.loop-number.number < length (nodes q) = omega (arith, c.loop-number-test.true, over.planned.counted) in
           let found = subst (λ n. SettledOr n columns c.args.self.view.now q High c.loop-number.number c.high.new.memo.output.work.now c.loop-number.memo.found c.high.new.memo.found c.high.result) same (c.high.ensures.found.each columns q over i.1 h) in
           let long = subst (λ r. SettledOr c.args.memo.now.output.limit columns c.args.self.view.now q High c.loop-number.number c.high.new.memo.output.work.now c.loop-number.memo.found c.high.new.memo.found r) none.0 found in
@@ -26,22 +26,22 @@ pub loop-number-preserved : goal.loop-number-preserved
 loop-number-preserved c =
     let same = c.loop-number.invariant.0 in (
       c.high.ensures.lies.limit_kept ∙ same,
-      λ columns q over held.
-          let i = c.loop-number.invariant.1 columns q over held in
+      λ columns q over agrees.
+          let i = c.loop-number.invariant.1 columns q over agrees in
           let h : c.loop-number.number < length (nodes q) = omega (arith, c.loop-number-test.true, over.planned.counted) in
           let found = subst (λ n. SettledOr n columns c.args.self.view.now q High c.loop-number.number c.high.new.memo.output.work.now c.loop-number.memo.found c.high.new.memo.found c.high.result) same (c.high.ensures.found.each columns q over i.1 h) in
           let s = subst (λ r. SettledOr c.args.memo.now.output.limit columns c.args.self.view.now q High c.loop-number.number c.high.new.memo.output.work.now c.loop-number.memo.found c.high.new.memo.found r) c.in_ok-ok_or.ensures.ok_part found in
           let sound = subst (λ n. Sound n c.high.new.memo.found) (c.high.ensures.lies.limit_kept ∙ same) c.high.new.memo.sound in (
             passed-more c.args.memo.now.output.limit c.args.self.view.now q c.loop-number.number h i.0
                 (high-few c.args.memo.now.output.limit columns c.args.self.view.now q c.loop-number.number c.high.new.memo.output.work.now c.loop-number.memo.found c.high.new.memo.found _ h sound s),
-            s.held,
+            s.agrees,
           ),
     )
 
 pub returns : goal.returns
 returns c = record {
   limit = c.loop-number.invariant.0;
-  lowest = λ columns q over held.
-      let i = c.loop-number.invariant.1 columns q over held in
+  lowest = λ columns q over agrees.
+      let i = c.loop-number.invariant.1 columns q over agrees in
       (sym (passed-all c.args.memo.now.output.limit c.args.self.view.now q c.loop-number.number (omega (arith, c.loop-number-test.false, over.planned.counted)) i.0), i.1);
 }
