@@ -17,6 +17,8 @@ use workspace::clear;
 /// Answers a broker's query about a book under a policy: writes the reply with the certain and the
 /// possible rows, and says how long it is. What the outcomes of such calls keep, whatever is stored,
 /// asked and hidden, are the laws.
+// Not inlined: a program is large where it asks, and the loops over rows are best laid out by themselves.
+#[inline(never)]
 pub fn ask<P: Policy>(
     book: &Book<'_>,
     policy: &P,

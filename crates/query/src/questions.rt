@@ -42,36 +42,3 @@ pub fn check(query: &[u8], book: &Book) -> Result<Plan, Refusal>
     }
     Ok(plan)
 }
-
-#[cfg(test)]
-mod tests {
-    use super::check;
-    use crate::operation::Operation;
-    use book::Draft;
-    use cells::Cell;
-    use std::test::Fail;
-
-    // The kind is a number here, as the rules have it: 1 of a number.
-    #[test]
-    fn parts(rt: HostRuntime) -> Result<(), Fail> {
-        let mut draft = Draft::new();
-        draft.declare(0, 1, 0)?;
-        let mut cells = [Cell::ZERO; 96];
-        let book = draft.open(&mut cells);
-        let query = [
-            1, 0, 1, 0, 0, 1, 0, 1, 0, 0, 0, 0, 5, 0, 1, 0, 1, 0, 0, 0, 0, 6, 0, 1, 0, 1, 0, 0, 0,
-            0, 4, 0, 2, 0, 3, 0, 1, 0,
-        ];
-        let plan = check(&query, &book)?;
-        assert_eq!(rt; plan.count(), 8);
-        assert_eq!(rt; plan.root(), Some(7));
-        assert_eq!(rt; plan.kinds().map(|kinds| kinds.listed().len()), Some(2));
-        assert_eq!(rt; plan.operation(&query, 2), Some(Operation::Union(0, 1)));
-        assert_eq!(rt;
-            plan.operation(&query, 7),
-            Some(Operation::Project(6, &[1, 0]))
-        );
-        assert_eq!(rt; plan.operation(&query, 8), None);
-        Ok(())
-    }
-}
