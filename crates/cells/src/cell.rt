@@ -16,6 +16,8 @@ pub enum Cell {
 const _: () = prove!(size_of::<Cell>() == 12);
 
 impl Cell {
+    ghost use Rattle.cells.specs.Equality.{EqualByValue};
+
     /// What a cell holds that no row uses: the number 0.
     pub const ZERO: Cell = Cell::Number(0);
 
@@ -28,6 +30,12 @@ impl Cell {
             Cell::Prefix(_) => Kind::Prefix,
         }
     }
+
+    /// Cells are equal exactly where they hold the same value.
+    #[tactic(auto, using(crate::proofs::Same::equal_cells))]
+    pub(crate) fn are_equal_by_value()
+        ensures { EqualByValue }
+    {}
 }
 
 /// As it is shown to a person.

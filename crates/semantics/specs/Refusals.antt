@@ -1,5 +1,5 @@
--- The refusals: the number and the place of each.
-use Rattle.std.specs.Prelude.{ℕ}
+-- The refusals: the number, the place and the meaning of each.
+use Rattle.std.specs.Prelude.{ℕ, List, codes}
 use Rattle.semantics.specs.declared.refusal.Refusal.{Refusal}
 use Rattle.semantics.specs.declared.refusal.Refusal.TheVariants.{NoTable, TooManyColumns, UnknownKind, WrongDomain, NotPrefix, NoRow, NoColumn, WrongWidth, WrongKind, TableFull, QueryLength, TooManyRecords, BrokenRecord, UnknownRecord, WrongForm, StackShort, NoSuchName, Unfit, ProductTooWide, NotOneRelation, TooManyRows, ReplyTooLong, TooManyRules, RegisterFull}
 
@@ -56,3 +56,30 @@ refusal_place (TooManyRows rec) = rec
 refusal_place (ReplyTooLong count) = count
 refusal_place TooManyRules = 0
 refusal_place RegisterFull = 0
+
+-- Its meaning in words: the characters of a text.
+abbrev pub refusal_meaning : Refusal → List ℕ
+refusal_meaning NoTable = codes "there is no such table"
+refusal_meaning TooManyColumns = codes "the table has 8 columns already"
+refusal_meaning UnknownKind = codes "there is no such kind of column"
+refusal_meaning WrongDomain = codes "the domain does not take this column"
+refusal_meaning NotPrefix = codes "not a prefix of at most 8 decimal digits"
+refusal_meaning NoRow = codes "the table has no such row"
+refusal_meaning NoColumn = codes "the table has no such column"
+refusal_meaning WrongWidth = codes "not as many cells as columns, or none"
+refusal_meaning (WrongKind cell) = codes "the cell is not of its column's kind"
+refusal_meaning TableFull = codes "the table is full"
+refusal_meaning QueryLength = codes "the query is empty or too long"
+refusal_meaning (TooManyRecords rec) = codes "more than 15 records"
+refusal_meaning (BrokenRecord rec) = codes "the record is cut short"
+refusal_meaning (UnknownRecord rec) = codes "there is no such kind of record"
+refusal_meaning (WrongForm rec) = codes "the record's body has a wrong form"
+refusal_meaning (StackShort rec) = codes "too few relations for the record"
+refusal_meaning (NoSuchName rec) = codes "no such table or column"
+refusal_meaning (Unfit rec) = codes "the kinds do not fit"
+refusal_meaning (ProductTooWide rec) = codes "the product is wider than 8 columns"
+refusal_meaning (NotOneRelation count) = codes "not exactly one relation is left"
+refusal_meaning (TooManyRows rec) = codes "too many rows for the workspace"
+refusal_meaning (ReplyTooLong count) = codes "the reply does not fit its buffer"
+refusal_meaning TooManyRules = codes "the policy has 16 rules already"
+refusal_meaning RegisterFull = codes "the register has 64 entries already"

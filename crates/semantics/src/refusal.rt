@@ -1,5 +1,5 @@
 ghost use Rattle.std.specs.Prelude.{◌≡◌};
-ghost use Rattle.semantics.specs.Refusals.{refusal_number, refusal_place};
+ghost use Rattle.semantics.specs.Refusals.{refusal_number, refusal_place, refusal_meaning};
 
 use std::error::Error;
 use std::fmt;
@@ -112,7 +112,9 @@ impl Refusal {
     }
 
     /// What the refusal says, in words.
-    fn meaning(self) -> &'static str {
+    pub fn meaning(self) -> &'static str
+        ensures { result.now ≡ refusal_meaning self }
+    {
         match self {
             Refusal::NoTable => "there is no such table",
             Refusal::TooManyColumns => "the table has 8 columns already",

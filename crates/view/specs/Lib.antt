@@ -1,3 +1,4 @@
 pub mod Sizes
 pub mod Views
 pub mod Positions
+pub mod Equality

@@ -21,8 +21,17 @@ pub enum Masked {
 const _: () = prove!(size_of::<Masked>() == 16);
 
 impl Masked {
+    ghost use Rattle.view.specs.Equality.{EqualAsSeen, RowsEqualAsSeen};
+
     /// What a cell holds that no row uses: the number 0.
     pub const ZERO: Masked = Masked::Value(Cell::ZERO);
+
+    /// Cells are equal exactly where they are seen as the same, and rows where they are identical.
+    #[tactic(auto, using(crate::proofs::Same::equal_masked, crate::proofs::Same::equal_rows))]
+    pub(crate) fn are_equal_as_seen()
+        ensures cells { EqualAsSeen }
+        ensures rows { RowsEqualAsSeen }
+    {}
 }
 
 /// The cell of a row in a column, the number 0 past the row's end.
