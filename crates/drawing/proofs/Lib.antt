@@ -2,3 +2,4 @@ pub mod Books
 pub mod Finding
 pub mod Order
 pub mod Drawing
+pub mod Holding

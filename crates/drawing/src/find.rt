@@ -1,5 +1,6 @@
 ghost use Rattle.std.specs.Prelude.{◌≡◌, ◌≤◌};
 ghost use Rattle.semantics.specs.Books.{column_at, columns_of};
+ghost use Rattle.semantics.specs.Values.{same_value};
 ghost use Rattle.semantics.specs.Views.{content};
 ghost use Rattle.cells.specs.Cells.{cell_value};
 ghost use Rattle.book.specs.Books.{book_model};
@@ -15,6 +16,16 @@ pub(crate) fn cell_at(book: &Book<'_>, at: Position) -> Cell
 {
     let row = book.row(at.slot.table, at.slot.row).unwrap_or(&[]);
     row.get(at.column).copied().unwrap_or(Cell::ZERO)
+}
+
+/// Whether the cell of a book at a position holds a value.
+// It is compared where it stands: a copy of each cell that is searched costs more than the comparison.
+#[tactic(auto, using(cells::proofs::Same::equal_cells))]
+fn holds(book: &Book<'_>, at: Position, value: &Cell) -> bool
+    ensures { result ≡ same_value (content (book_model book.now) (place_at at)) (cell_value value.now) }
+{
+    let row = book.row(at.slot.table, at.slot.row).unwrap_or(&[]);
+    row.get(at.column).unwrap_or(&Cell::ZERO) == value
 }
 
 /// The domain of a column of a book, 0 where there is none.
@@ -41,13 +52,12 @@ impl Search<'_> {
     ghost use Rattle.drawing.specs.Searching.{Finds, InColumn, InTable, OneCell, Searched};
 
     /// The index of the pseudonym of a cell, where it is drawn for the value.
-    #[tactic(auto, using(cells::proofs::Same::equal_cells))]
     fn index_at(&self, table: usize, row: usize, column: usize) -> Option<u16>
         ensures { Finds self.now (OneCell table row column) result }
     {
         let at = Position::new(table, row, column)?;
         match self.view.cell(at) {
-            Masked::Pseudonym { domain: _, index } if cell_at(self.book, at) == self.value => {
+            Masked::Pseudonym { domain: _, index } if holds(self.book, at, &self.value) => {
                 Some(index)
             }
             _ => None,

@@ -1,14 +1,26 @@
-ghost use Rattle.std.specs.Prelude.{◌≡◌, ◌<◌, [], map, length, slice_index_or};
-ghost use Rattle.semantics.specs.Books.{columns_of, rows_of};
+ghost use Rattle.std.specs.Prelude.{◌≡◌, ◌<◌, ◌≤◌, [], map, length, take, drop, slice_index_or};
+ghost use Rattle.semantics.specs.Books.{columns_of, rows_of, limit_of};
 ghost use Rattle.cells.specs.Cells.{cell_value};
 ghost use Rattle.book.specs.Books.{book_model, RowAt};
+ghost use Rattle.book.specs.Layout.{row_start};
 ghost use Rattle.book.specs.Walks.{rows_left};
 
-use crate::book::Book;
+use crate::book::{Book, Rows};
 use crate::slot::Slot;
 use crate::walk::Walk;
 use cells::Cell;
 use semantics::Column;
+
+impl Rows<'_> {
+    /// So many cells of a row.
+    fn part(&self, at: Slot, width: usize) -> &[Cell]
+        requires { (at.row < limit_of (length self.now.cells.now)) × (width ≤ 8) }
+        ensures { result.now ≡ take width (drop (row_start at.table at.row) self.now.cells.now) }
+    {
+        let start = at.start();
+        &self.cells[start..start + width]
+    }
+}
 
 impl Book<'_> {
     /// How many rows each table may have.
@@ -46,7 +58,7 @@ impl Book<'_> {
         requires { at.row < length (rows_of (book_model self.now) at.table) }
         ensures { map cell_value result.now ≡ slice_index_or (rows_of (book_model self.now) at.table) at.row [] }
     {
-        &at.cells(self.rows.cells)[..self.tables[at.table].len()]
+        self.rows.part(at, self.tables[at.table].len())
     }
 
     /// The cells of a row, where there is one of this number.

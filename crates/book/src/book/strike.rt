@@ -21,11 +21,7 @@ impl Rows<'_> {
         let last = self.counts[table] - 1;
         for row in row..last {
             let start = Slot { table, row }.start();
-            let next = Slot {
-                table,
-                row: row + 1,
-            }
-            .start();
+            let next = start + 32;
             self.cells.copy_within(next..next + 8, start);
         }
         let start = Slot { table, row: last }.start();
