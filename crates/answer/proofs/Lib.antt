@@ -11,3 +11,4 @@ pub mod Limits
 pub mod Finding
 pub mod Replying
 pub mod Noting
+pub mod Fronts

@@ -7,7 +7,7 @@ ghost use Rattle.answer.specs.Bounds.{keeps, other, region, takes_out};
 ghost use Rattle.answer.specs.Rows.{carried};
 ghost use Rattle.answer.specs.Selecting.{Selects};
 
-use crate::row::Row;
+use crate::row::{Row, identical};
 use compare::{Truth, truth};
 use rows::compatible;
 use view::Masked;
@@ -61,13 +61,12 @@ impl Bound {
 
     /// Whether a right row takes a left row out of a difference: in the low answer if it may be the
     /// same row, in the high answer if it is.
-    #[tactic(auto, using(view::proofs::Same::equal_rows))]
     fn takes_out(self, row: &Row, other: &[Masked]) -> bool
         ensures { result ≡ takes_out self (carried row.now) (map masked_of other.now) }
     {
         match self {
             Bound::Low => compatible(row.cells(), other),
-            Bound::High => row.cells() == other,
+            Bound::High => identical(row.cells(), other),
         }
     }
 

@@ -12,7 +12,7 @@ mod select;
 mod table;
 mod union;
 
-use crate::row::Row;
+use crate::row::{Row, identical};
 use view::Masked;
 use workspace::Block;
 
@@ -69,7 +69,7 @@ impl Output<'_> {
     fn has(&self, row: &[Masked]) -> bool
         ensures { result ≡ some (same_row (map masked_of row.now)) (output_rows self.now) }
     {
-        self.rows.rows(self.work).any(|other| row == other)
+        self.rows.rows(self.work).any(|other| identical(row, other))
     }
 
     /// Puts a row behind the others, unless one of them is identical to it; none where there is no

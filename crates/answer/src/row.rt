@@ -1,5 +1,5 @@
 ghost use Rattle.std.specs.Prelude.{◌≡◌, ◌+◌, ◌*◌, ◌<◌, ◌≤◌, [], ◌++◌, map, length, slice_index_or};
-ghost use Rattle.semantics.specs.Answers.{picked};
+ghost use Rattle.semantics.specs.Answers.{picked, same_row};
 ghost use Rattle.view.specs.Views.{masked_of, width_in};
 ghost use Rattle.workspace.specs.Blocks.{block_rows};
 ghost use Rattle.answer.specs.Regions.{Within};
@@ -8,6 +8,19 @@ ghost use Rattle.answer.specs.Rows.{carried, seen_rows};
 use bounded::Bounded;
 use view::{Masked, View, cell_at};
 use workspace::Block;
+
+/// Whether two rows are identical.
+// Most rows differ in their first cell: it is compared here, without a call for each pair of rows.
+#[tactic(auto, using(view::proofs::Same::equal_masked, view::proofs::Same::equal_rows))]
+#[inline(always)]
+pub(crate) fn identical(row: &[Masked], other: &[Masked]) -> bool
+    ensures { result ≡ same_row (map masked_of row.now) (map masked_of other.now) }
+{
+    match (row, other) {
+        ([x, cells @ ..], [y, others @ ..]) => x == y && cells == others,
+        _ => row.is_empty() && other.is_empty(),
+    }
+}
 
 /// A row on its way into an answer: at most 8 cells.
 #[derive(Clone, Copy, PartialEq, Eq, Debug)]

@@ -28,19 +28,19 @@ pub fn compare(operator: Operator, left: &Masked, right: &Masked) -> Truth
     use Masked::{Pseudonym, Value, Variable};
     use Operator::{AtMost, Covers, Equal, Less, Shorter, Unequal};
 
-    match (operator, left, right) {
-        (_, Value(a), Value(b)) => Truth::from(plainly(operator, Plain::from(a), Plain::from(b))),
-        (Equal | AtMost | Covers, Variable { .. }, Variable { .. }) if left == right =>
+    match (left, right, operator) {
+        (Value(a), Value(b), _) => Truth::from(plainly(operator, Plain::from(a), Plain::from(b))),
+        (Variable { .. }, Variable { .. }, Equal | AtMost | Covers) if left == right =>
             Truth::Holds,
-        (Unequal | Less | Shorter, Variable { .. }, Variable { .. }) if left == right =>
+        (Variable { .. }, Variable { .. }, Unequal | Less | Shorter) if left == right =>
             Truth::Fails,
-        (Equal | AtMost | Covers, Pseudonym { .. }, Pseudonym { .. }) if left == right =>
+        (Pseudonym { .. }, Pseudonym { .. }, Equal | AtMost | Covers) if left == right =>
             Truth::Holds,
-        (Unequal | Less | Shorter, Pseudonym { .. }, Pseudonym { .. }) if left == right =>
+        (Pseudonym { .. }, Pseudonym { .. }, Unequal | Less | Shorter) if left == right =>
             Truth::Fails,
-        (Equal, Pseudonym { domain, .. }, Pseudonym { domain: d, .. }) if domain == d =>
+        (Pseudonym { domain, .. }, Pseudonym { domain: d, .. }, Equal) if domain == d =>
             Truth::Fails,
-        (Unequal, Pseudonym { domain, .. }, Pseudonym { domain: d, .. }) if domain == d =>
+        (Pseudonym { domain, .. }, Pseudonym { domain: d, .. }, Unequal) if domain == d =>
             Truth::Holds,
         _ => Truth::Unknown,
     }

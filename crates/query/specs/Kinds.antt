@@ -1,7 +1,7 @@
 -- The kinds that a structure of the code stands for.
-use Rattle.std.specs.Prelude.{◌≡◌, ℕ, ◌+◌, ◌<◌, ◌≤◌, Bool, true, false, List, ◌++◌, map, length, Some, None, Option, nat_lt}
+use Rattle.std.specs.Prelude.{◌≡◌, ℕ, ◌+◌, ◌<◌, ◌≤◌, Bool, true, false, ◌&&◌, List, ◌++◌, map, length, Some, None, Option, nat_lt}
 use Rattle.semantics.specs.declared.kind.Kind.{Kind}
-use Rattle.semantics.specs.Conditions.{kind_at}
+use Rattle.semantics.specs.Conditions.{Comparison, kind_at, named_comparison, fitting_comparison}
 use Rattle.semantics.specs.Lists.{every}
 use Rattle.bounded.specs.Bounded.{items}
 use Rattle.query.specs.declared.kinds.Kinds.{Kinds}
@@ -23,3 +23,7 @@ JoinedIs left right None = 8 < length left + length right
 abbrev pub PickedIs : List Kind → List ℕ → Option Kinds → Type 0
 PickedIs kinds columns (Some r) = (among kinds columns ≡ true) × (kinds_in r ≡ map (kind_at kinds) columns)
 PickedIs kinds columns None = among kinds columns ≡ false
+
+-- Does a comparison pass over columns of these kinds? Its columns exist, and its sides fit.
+abbrev pub passing_comparison : List Kind → Comparison → Bool
+passing_comparison kinds k = named_comparison kinds k && fitting_comparison kinds k

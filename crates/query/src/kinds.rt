@@ -4,7 +4,7 @@ ghost use Rattle.semantics.specs.Kinds.{same_kind};
 ghost use Rattle.semantics.specs.Lists.{pairwise};
 ghost use Rattle.semantics.specs.Operators.{takes};
 ghost use Rattle.records.specs.Terms.{passes, term_of};
-ghost use Rattle.query.specs.Kinds.{kinds_in, PickedIs, JoinedIs};
+ghost use Rattle.query.specs.Kinds.{kinds_in, passing_comparison, PickedIs, JoinedIs};
 
 use bounded::Bounded;
 use records::Term;
@@ -80,6 +80,13 @@ impl Kinds {
             Term::ByPrefix(operator, left, _) => compares(operator, self.at(left), Kind::Prefix),
             _ => true,
         }
+    }
+
+    /// Whether the columns that a term names exist, and the sides that it compares fit.
+    pub(crate) fn pass(&self, term: Term<'_>) -> bool
+        ensures { result ≡ passes (passing_comparison (kinds_in self.now)) (term_of term.entry) }
+    {
+        self.has_columns_of(term) && self.fit(term)
     }
 
     /// The kinds of a table's columns.

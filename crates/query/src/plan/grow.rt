@@ -51,10 +51,10 @@ impl Plan {
         let place = self.place();
         let part = self.part()?.step;
         let kinds = part.kinds;
-        if !Terms::of(body).all(|term| kinds.has_columns_of(term)) {
-            return Err(Refusal::NoSuchName(place));
-        }
-        if !Terms::of(body).all(|term| kinds.fit(term)) {
+        if !Terms::of(body).all(|term| kinds.pass(term)) {
+            if !Terms::of(body).all(|term| kinds.has_columns_of(term)) {
+                return Err(Refusal::NoSuchName(place));
+            }
             return Err(Refusal::Unfit(place));
         }
         Ok(Step {
