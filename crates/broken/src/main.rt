@@ -7,6 +7,7 @@ use book::{Book, Draft};
 use cells::Cell;
 use query::check;
 use semantics::Refusal;
+use std::alloc::AllocError;
 use tariffs::{declare, from_hex, prefix, reader_columns};
 
 /// Table 0 has a prefix and two numbers, table 1 two numbers, table 2 a prefix, and table 3 nothing.
@@ -39,7 +40,7 @@ fn run(rt: &HostRuntime) -> anyhow::Result<()> {
     for line in rt.lines(rt.alloc()) {
         let line = line?;
         if let Some((name, digits)) = line.as_str().split_once(':') {
-            let query = from_hex(rt.alloc(), digits)?;
+            let query = from_hex(rt.alloc(), digits).or(Err(AllocError))?;
             report(rt, name, query.as_slice(), &book)?;
         }
     }

@@ -28,16 +28,28 @@ fn columns() -> Result<Draft, Refusal> {
     Ok(draft)
 }
 
-/// Puts the query of each line to the book that the line names.
-fn lines<'b>(desk: &mut Desk<'_>, short: &'b Book<'b>, tall: &'b Book<'b>) -> anyhow::Result<()> {
-    let rt = desk.rt;
+/// Reads all lines, so that none is answered where one cannot be read.
+fn read(rt: &HostRuntime) -> anyhow::Result<Vec<String>> {
+    let mut texts = Vec::new(rt.alloc());
     for line in rt.lines(rt.alloc()) {
-        let line = line?;
-        let (name, words) = line
+        texts.push(line?)?;
+    }
+    Ok(texts)
+}
+
+/// Puts the query of each line to the book that the line names.
+fn lines<'b>(
+    desk: &mut Desk<'_>,
+    texts: &[String],
+    short: &'b Book<'b>,
+    tall: &'b Book<'b>,
+) -> anyhow::Result<()> {
+    for text in texts {
+        let (name, words) = text
             .as_str()
             .split_once(':')
             .context("a line without a colon")?;
-        let asked = Asked::read(rt.alloc(), words)?;
+        let asked = Asked::read(desk.rt.alloc(), words)?;
         let book = match asked.stock {
             Stock::Short => short,
             Stock::Tall => tall,
@@ -49,6 +61,7 @@ fn lines<'b>(desk: &mut Desk<'_>, short: &'b Book<'b>, tall: &'b Book<'b>) -> an
 
 /// Fills both books and goes through the lines.
 fn run(rt: &HostRuntime) -> anyhow::Result<()> {
+    let texts = read(rt)?;
     let mut cells = [Cell::ZERO; 256];
     let mut short = columns()?.open(&mut cells);
     stock::short(&mut short).context("a row was refused")?;
@@ -57,7 +70,7 @@ fn run(rt: &HostRuntime) -> anyhow::Result<()> {
     stock::tall(&mut tall).context("a row was refused")?;
     let policy = marks::policy().context("a rule or a consent was refused")?;
     let mut desk = Desk::new(rt, &policy)?;
-    lines(&mut desk, &short, &tall)
+    lines(&mut desk, texts.as_slice(), &short, &tall)
 }
 
 fn main(rt: HostRuntime) -> anyhow::Result<()> {

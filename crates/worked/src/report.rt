@@ -2,7 +2,7 @@
 
 use crate::ask::Lent;
 use crate::marks::Brokers;
-use anyhow::{Context, bail};
+use anyhow::Context;
 use book::Book;
 use reply::refusal_record;
 use std::alloc::{AllocError, Global};
@@ -20,14 +20,14 @@ pub(crate) enum Stock {
     Tall,
 }
 
+/// The tall book by its name, and the short one by every other word.
 impl FromStr for Stock {
     type Err = anyhow::Error;
 
     fn from_str(text: &str) -> anyhow::Result<Stock> {
         match text {
-            "short" => Ok(Stock::Short),
             "tall" => Ok(Stock::Tall),
-            _ => bail!("a line with no such book"),
+            _ => Ok(Stock::Short),
         }
     }
 }
@@ -51,12 +51,16 @@ impl Asked {
     /// Reads the words of a line. A query without bytes has no digits.
     pub(crate) fn read(heap: Global, text: &str) -> anyhow::Result<Asked> {
         let mut words = text.split_whitespace();
+        let book = word(&mut words)?;
+        let broker = word(&mut words)?;
+        let cells = word(&mut words)?;
+        let bytes = word(&mut words)?;
         Ok(Asked {
-            stock: word(&mut words)?.parse()?,
-            broker: word(&mut words)?.parse()?,
-            cells: word(&mut words)?.parse()?,
-            bytes: word(&mut words)?.parse()?,
-            query: from_hex(heap, words.next().unwrap_or(""))?,
+            stock: book.parse()?,
+            query: from_hex(heap, words.next().unwrap_or("")).or(Err(AllocError))?,
+            broker: broker.parse()?,
+            cells: cells.parse()?,
+            bytes: bytes.parse()?,
         })
     }
 }
@@ -111,8 +115,8 @@ impl<'a> Desk<'a> {
         let work = self.work.as_mut_slice().get_mut(..asked.cells);
         let reply = self.reply.as_mut_slice().get_mut(..asked.bytes);
         let mut lent = Lent {
-            work: work.context("a line with too many cells")?,
-            reply: reply.context("a line with too many bytes")?,
+            work: work.context("a line with too much memory")?,
+            reply: reply.context("a line with too much memory")?,
         };
         lent.fill();
         let outcome = lent.ask(book, policy, asked.broker, asked.query.as_slice());
