@@ -25,20 +25,23 @@ fn pseudonym(domain: u8, index: u16) -> Masked {
 #[test]
 fn comparisons(rt: HostRuntime) -> Result<(), Fail> {
     let none = prefix(b"")?;
+    let short = prefix(b"47")?;
     let long = prefix(b"4711")?;
-    assert_eq!(rt; compare(Operator::Covers, &none, &long), Truth::Holds);
-    assert_eq!(rt;
-        compare(Operator::Unequal, &variable(1), &variable(2)),
-        Truth::Unknown
-    );
-    assert_eq!(rt;
-        compare(Operator::Unequal, &pseudonym(1, 0), &pseudonym(1, 4)),
-        Truth::Holds
-    );
-    assert_eq!(rt;
-        compare(Operator::Equal, &pseudonym(1, 0), &pseudonym(2, 0)),
-        Truth::Unknown
-    );
+    let (this, that, other) = (pseudonym(1, 0), pseudonym(1, 4), pseudonym(2, 0));
+    let cases = [
+        (Operator::Covers, none, long, Truth::Holds),
+        (Operator::Covers, long, short, Truth::Fails),
+        (Operator::Covers, long, long, Truth::Holds),
+        (Operator::Shorter, short, long, Truth::Holds),
+        (Operator::Equal, variable(1), variable(1), Truth::Holds),
+        (Operator::Unequal, variable(1), variable(2), Truth::Unknown),
+        (Operator::Unequal, this, that, Truth::Holds),
+        (Operator::Less, this, that, Truth::Unknown),
+        (Operator::Equal, this, other, Truth::Unknown),
+    ];
+    for (operator, left, right, truth) in cases {
+        assert_eq!(rt; compare(operator, &left, &right), truth);
+    }
     Ok(())
 }
 
@@ -63,7 +66,8 @@ fn conditions(rt: HostRuntime) -> Result<(), Fail> {
         \x00\x00\x15\x00\
         \x00\x00\x14\x00";
     assert_eq!(rt; truth(either, &row), Truth::Holds);
-    // The first comparison alone is unknown.
+    // The first comparison alone is unknown; the first two joined by "and" are false.
     assert_eq!(rt; truth(&either[0..10], &row), Truth::Unknown);
+    assert_eq!(rt; truth(&either[0..24], &row), Truth::Fails);
     Ok(())
 }

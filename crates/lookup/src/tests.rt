@@ -2,6 +2,7 @@ use crate::ask;
 use book::{Book, Draft};
 use cells::Cell;
 use policy::Filters;
+use query::{Operation, check};
 use semantics::{Refusal, Rule, Sign, Test};
 use std::test::Fail;
 use view::Masked;
@@ -67,6 +68,10 @@ fn a_refused_ask_leaves_no_trace(rt: HostRuntime) -> Result<(), Fail> {
     assert!(rt; broken == Err(Refusal::BrokenRecord(0)));
     assert!(rt; is_clear(&work));
     work.fill(litter);
+    let unknown = ask(&book, &policy, 7, &[0, 0, 1, 1], &mut work, &mut reply);
+    assert!(rt; unknown == Err(Refusal::UnknownRecord(0)));
+    assert!(rt; is_clear(&work));
+    work.fill(litter);
     let short = ask(&book, &policy, 7, &TABLE, &mut work, &mut reply);
     assert!(rt; short == Err(Refusal::ReplyTooLong(1)));
     assert!(rt; is_clear(&work));
@@ -75,5 +80,33 @@ fn a_refused_ask_leaves_no_trace(rt: HostRuntime) -> Result<(), Fail> {
     assert!(rt; full == Err(Refusal::TooManyRows(0)));
     assert!(rt; is_clear(&work[..239]));
     assert!(rt; reply == [9; 16]);
+    Ok(())
+}
+
+#[test]
+fn the_plan_of_the_longest_prefix(rt: HostRuntime) -> Result<(), Fail> {
+    let mut draft = Draft::new();
+    draft.declare(0, 2, 1)?;
+    draft.declare(0, 1, 0)?;
+    draft.declare(0, 1, 0)?;
+    let mut memory = [Cell::ZERO; 96];
+    let book = draft.open(&mut memory);
+    let query = [
+        1, 0, 1, 0, 0, 11, 0, 2, 0, 7, 0, 18, 0, 5, 0, 52, 55, 49, 49, 48, 1, 0, 1, 0, 0, 11, 0, 2,
+        0, 7, 0, 18, 0, 5, 0, 52, 55, 49, 49, 48, 1, 0, 1, 0, 0, 11, 0, 2, 0, 7, 0, 18, 0, 5, 0,
+        52, 55, 49, 49, 48, 0, 0, 4, 0, 7, 0, 2, 0, 3, 0, 16, 0, 6, 0, 3, 3, 0, 3, 0, 0, 1, 2, 0,
+        0, 6, 0,
+    ];
+    let plan = check(&query, &book)?;
+    assert_eq!(rt; plan.count(), 10);
+    let difference = plan.operation(&query, 9);
+    assert!(rt; difference == Some(Operation::Difference(1, 8)));
+    let project = plan.operation(&query, 8);
+    assert!(rt; project == Some(Operation::Project(7, &[0, 1, 2])));
+    let product = plan.operation(&query, 6);
+    assert!(rt; product == Some(Operation::Product(3, 5)));
+    // The records from 2 to 6, a product of two selects, as a query of its own.
+    let sides = check(&query[20..64], &book)?;
+    assert_eq!(rt; sides.kinds().map(|kinds| kinds.listed().len()), Some(6));
     Ok(())
 }

@@ -33,19 +33,23 @@ fn consent(key: u32) -> Consent {
 #[test]
 fn rules_are_questioned(rt: HostRuntime) -> Result<(), Fail> {
     let mut filters = Filters::new();
+    assert_eq!(rt; filters.rules().len(), 0);
+    let test = two_in(8);
+    let no_column = Rule { column: 8, ..ALLOW };
     let no_table = Rule {
         table: 4,
-        column: 8,
-        ..ALLOW
+        test,
+        ..no_column
     };
-    let no_column = Rule { column: 8, ..ALLOW };
-    let no_tested = Rule {
-        test: two_in(8),
-        ..ALLOW
-    };
-    assert_eq!(rt; filters.add(no_table), Err(Refusal::NoTable));
-    assert_eq!(rt; filters.add(no_column), Err(Refusal::NoColumn));
-    assert_eq!(rt; filters.add(no_tested), Err(Refusal::NoColumn));
+    let faults = [
+        (no_table, Refusal::NoTable),
+        (no_column, Refusal::NoColumn),
+        (Rule { test, ..ALLOW }, Refusal::NoColumn),
+    ];
+    for (rule, fault) in faults {
+        assert_eq!(rt; filters.add(rule), Err(fault));
+    }
+    assert_eq!(rt; filters.rules().len(), 0);
     for column in 0..8 {
         let test = two_in(column);
         filters.add(Rule {
@@ -73,15 +77,44 @@ fn a_prohibition_beats_an_allowance(rt: HostRuntime) -> Result<(), Fail> {
     filters.add(ALLOW)?;
     let digits = Cell::Prefix(Prefix::from_bytes(b"2")?);
     let seconds = [Cell::Number(1), Cell::Number(2), digits];
-    let marks = seconds.map(|second| filters.mark(7, 3, &[Cell::Number(2), second], 0));
-    assert_eq!(rt; marks, [Mark::Shown, Mark::Hidden, Mark::Shown]);
+    for first in [Cell::Number(2), digits] {
+        let marks = seconds.map(|second| filters.mark(7, 3, &[first, second], 0));
+        assert_eq!(rt; marks, [Mark::Shown, Mark::Hidden, Mark::Shown]);
+    }
     assert_eq!(rt; filters.mark(7, 3, &[], 0), Mark::Shown);
+    let row = [digits, Cell::Number(1)];
     let others = [
-        filters.mark(8, 3, &[], 0),
-        filters.mark(7, 2, &[], 0),
-        filters.mark(7, 3, &[], 1),
+        filters.mark(8, 3, &row, 0),
+        filters.mark(7, 2, &row, 0),
+        filters.mark(7, 3, &row, 1),
     ];
     assert_eq!(rt; others, [Mark::Hidden; 3]);
+    Ok(())
+}
+
+#[test]
+fn tests_want_a_number(rt: HostRuntime) -> Result<(), Fail> {
+    let mut filters = Filters::new();
+    let test = Test::Holds {
+        column: 1,
+        number: 47,
+    };
+    filters.add(Rule {
+        table: 0,
+        test,
+        ..ALLOW
+    })?;
+    let (one, wanted) = (Cell::Number(1), Cell::Number(47));
+    let digits = Cell::Prefix(Prefix::from_bytes(b"47")?);
+    let rows: [(&[Cell], Mark); 4] = [
+        (&[one, wanted], Mark::Shown),
+        (&[wanted, one], Mark::Hidden),
+        (&[wanted], Mark::Hidden),
+        (&[one, digits], Mark::Hidden),
+    ];
+    for (row, mark) in rows {
+        assert_eq!(rt; filters.mark(7, 0, row, 0), mark);
+    }
     Ok(())
 }
 
@@ -108,10 +141,15 @@ fn a_register_of_64_keys(rt: HostRuntime) -> Result<(), Fail> {
         consents.mark(7, 3, &[], 0),
     ];
     assert_eq!(rt; none, [Mark::Hidden; 3]);
-    let marks = [0, 1, 2, 3, 7, 8].map(|column| consents.mark(7, 3, &[Cell::Number(9)], column));
-    let (shown, hidden) = (Mark::Shown, Mark::Hidden);
-    assert_eq!(rt; marks, [shown, Mark::Linked, shown, hidden, shown, hidden]);
-    assert_eq!(rt; consents.mark(7, 2, &[], 8), Mark::Shown);
+    let row = [Cell::Number(9), Cell::Number(4)];
+    let marks: [Mark; 9] = array::from_fn(|column| consents.mark(7, 3, &row, column));
+    let (shown, linked, none) = (Mark::Shown, Mark::Linked, Mark::Hidden);
+    assert_eq!(rt;
+        marks,
+        [shown, linked, shown, none, none, none, none, shown, none]
+    );
+    let others = [consents.mark(7, 2, &[], 8), consents.mark(7, 4, &row, 3)];
+    assert_eq!(rt; others, [shown; 2]);
     Ok(())
 }
 
@@ -134,9 +172,16 @@ fn both_of_either(rt: HostRuntime) -> Result<(), Fail> {
     let known = [Cell::Number(9), Cell::Number(4), Cell::Number(4)];
     let marks: [Mark; 3] = array::from_fn(|column| stack.mark(7, 3, &known, column));
     assert_eq!(rt; marks, [Mark::Shown, Mark::Shown, Mark::Hidden]);
+    let unknown = [Cell::Number(8), Cell::Number(4), Cell::Number(4)];
+    let marks: [Mark; 2] = array::from_fn(|column| stack.mark(7, 3, &unknown, column));
+    assert_eq!(rt; marks, [Mark::Hidden, Mark::Shown]);
     let marks: [Mark; 2] = array::from_fn(|column| stack.mark(7, 3, &[], column));
     assert_eq!(rt; marks, [Mark::Hidden, Mark::Shown]);
     assert_eq!(rt; stack.mark(8, 3, &known, 0), Mark::Hidden);
     assert_eq!(rt; stack.first.mark(8, 3, &known, 1), Mark::Linked);
+    assert_eq!(rt;
+        stack.first.second.mark(7, 3, &[Cell::Number(4)], 0),
+        Mark::Hidden
+    );
     Ok(())
 }

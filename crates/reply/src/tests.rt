@@ -56,6 +56,48 @@ fn each_sort_of_cell(rt: HostRuntime) -> Result<(), Fail> {
     Ok(())
 }
 
+/// The rows (47, 1, 3100) and (variable 0.1.0, 2, 2750) at the rows 1 and 2 of a workspace.
+fn two_rows() -> Result<[Masked; 24], Refusal> {
+    let mut work = [number(0); 24];
+    work[8] = prefix(b"47")?;
+    work[9] = number(1);
+    work[10] = number(3100);
+    work[16] = Masked::Variable {
+        table: 0,
+        row: 1,
+        column: 0,
+    };
+    work[17] = number(2);
+    work[18] = number(2750);
+    Ok(work)
+}
+
+const ROWS: Block = Block {
+    first: 1,
+    count: 2,
+    width: 3,
+};
+
+#[test]
+fn two_possible_rows_fit_in_44_bytes(rt: HostRuntime) -> Result<(), Fail> {
+    let work = two_rows()?;
+    let mut out = [0xee; 44];
+    assert_eq!(rt; write_reply(&work, NONE, ROWS, &mut out), Some(44));
+    assert_eq!(rt;
+        out,
+        [
+            0x04, 0x00, 0x20, 0x00, 0x00, 0x00, 0x02, 0x00, 0x0e, 0x00, 0x22, 0x00, 0x02, 0x02,
+            0x34, 0x37, 0x01, 0x01, 0x00, 0x00, 0x00, 0x01, 0x1c, 0x0c, 0x00, 0x00, 0x0e, 0x00,
+            0x22, 0x00, 0x03, 0x00, 0x01, 0x00, 0x01, 0x02, 0x00, 0x00, 0x00, 0x01, 0xbe, 0x0a,
+            0x00, 0x00,
+        ]
+    );
+    let mut short = [0xee; 43];
+    assert_eq!(rt; write_reply(&work, NONE, ROWS, &mut short), None);
+    assert_eq!(rt; short, [0xee; 43]);
+    Ok(())
+}
+
 #[test]
 fn record_of_a_refusal(rt: HostRuntime) {
     assert_eq!(rt;
