@@ -93,7 +93,7 @@ impl View {
         ensures cells { view_cells self.new ≡ replicate 8192 (Value (Number 0)) }
         ensures sizes { view_sizes self.new ≡ view_sizes self.old }
     {
-        self.cells.fill(Masked::ZERO);
+        self.cells = [Masked::ZERO; 8192];
     }
 
     /// Writes the cell at a position, of a row of the view or not.
